@@ -1,0 +1,2 @@
+-- What is proved of the definitions.
+pub mod Cases
