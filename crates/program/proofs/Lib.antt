@@ -2,3 +2,4 @@
 pub mod Rows
 pub mod ReadThread
 pub mod ReadProgram
+pub mod WriteWords

@@ -21,7 +21,7 @@ pub length-thread : (t : Thread) → length (thread t) ≡ t .len
 length-thread t = length-map (take (t .len) (t .code)) instruction ∙ length-take-le (t .len) (t .code) (omega arith)
 
 -- one more thread
-row-ts-push : (p : Prog) (t : model.Thread) → row-ts (p ++ t ∷ []) ≡ row-ts p ++ (length t ∷ row-t t)
+pub row-ts-push : (p : Prog) (t : model.Thread) → row-ts (p ++ t ∷ []) ≡ row-ts p ++ (length t ∷ row-t t)
 row-ts-push [] t = ap (λ r. length t ∷ r) (append-nil (row-t t))
 row-ts-push (u ∷ p) t =
     ap (λ r. length u ∷ (row-t u ++ r)) (row-ts-push p t)

@@ -1,10 +1,17 @@
 // Words to program and back. As words a program is how many threads it has; for each how many instructions, and four
 // words for each of these: 0 register number 0; 1 register first second; 2 register place 0; 3 place register 0;
 // 4 0 0 0.
-ghost use mathlib.Core.List.{List, _∷_, []};
-ghost use Prim.Native.Nat.{ℕ, _≤_, _<_};
+ghost use mathlib.Core.Path.{_≡_};
+ghost use mathlib.Core.List.{_∷_, [], _++_};
 ghost use lib.ListN.{length, drop};
+ghost use Rattle.std.specs.Of.Vec.{vec-items};
+ghost use Rattle.std.specs.Vec.{made};
+ghost use Rattle.model.specs.Code.{row-i, row-t, Reads};
+ghost use Rattle.program.specs.Instructions.{instruction};
+ghost use Rattle.program.specs.Meaning.{thread, program};
 ghost use Rattle.program.specs.Post.{InstructionRead, ThreadRead, ProgramRead};
+use std::alloc::AllocError;
+use std::alloc::Global;
 use crate::instructions::Instruction;
 use crate::instructions::Place;
 use crate::instructions::Register;
@@ -78,4 +85,40 @@ pub fn from_words(words: &[u32]) -> Option<Program>
 
 fn empty_thread() -> Thread {
     Thread { code: [Instruction::Fence; 8], len: 0 }
+}
+
+// The four words of an instruction.
+pub fn instruction_to_words(i: Instruction) -> [u32; 4]
+    ensures { λ r. ⌜ r ≡ row-i (instruction i) ⌝ }
+{
+    match i {
+        Instruction::Set(r, n) => [0, r.0, n, 0],
+        Instruction::Add(r, a, b) => [1, r.0, a.0, b.0],
+        Instruction::Load(r, x) => [2, r.0, x.0, 0],
+        Instruction::Store(x, r) => [3, x.0, r.0, 0],
+        Instruction::Fence => [4, 0, 0, 0],
+    }
+}
+
+// Adds a thread's words: how many instructions, and each.
+fn push_thread(words: &mut Vec<u32>, t: &Thread) -> Result<(), AllocError>
+    ensures { λ r. ⌜ made r (λ _. vec-items (now (words .exit)) ≡ vec-items (now (words .entry)) ++ (length (thread (now (t .entry))) ∷ row-t (thread (now (t .entry))))) ⌝ }
+{
+    words.push(t.len as u32)?;
+    for k in 0..t.len {
+        words.extend_from_slice(&instruction_to_words(t.code[k]))?;
+    }
+    Ok(())
+}
+
+// The words that the program is. `from_words` gives the program back, since words are at most one program.
+pub fn to_words(heap: Global, p: &Program) -> Result<Vec<u32>, AllocError>
+    ensures { λ r. ⌜ made r (λ v. Reads (vec-items v) (program (now (p .entry)))) ⌝ }
+{
+    let mut words = Vec::new(heap);
+    words.push(p.count as u32)?;
+    for n in 0..p.count {
+        push_thread(&mut words, &p.threads[n])?;
+    }
+    Ok(words)
 }
