@@ -1,0 +1,2 @@
+-- Laws of the tools.
+pub mod Fields

@@ -1,0 +1,2 @@
+-- What the tools promise, by lists and numbers.
+pub mod Nibbles
