@@ -1,0 +1,1 @@
+-- Lemmas on rows, states and moves.

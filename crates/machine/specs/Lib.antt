@@ -1,0 +1,2 @@
+-- What the machine's code means, by the model's definitions, and what its functions promise.
+pub mod Stores

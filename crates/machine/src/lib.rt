@@ -1,0 +1,3 @@
+// The store-buffer machine in code: a thread's registers and row of waiting stores, one move, and states as words.
+pub mod stores;
+pub mod rows;
