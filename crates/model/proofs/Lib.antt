@@ -1,3 +1,7 @@
 -- What is proved of the definitions.
 pub mod Cases
 pub mod Tools
+pub mod OneProgram
+pub mod AlsoWaiting
+pub mod RunsUnderGuards
+pub mod RunLength
