@@ -5,3 +5,4 @@ pub mod OneProgram
 pub mod AlsoWaiting
 pub mod RunsUnderGuards
 pub mod RunLength
+pub mod OneEnd

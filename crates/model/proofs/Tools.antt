@@ -8,10 +8,10 @@ use mathlib.Core.List.{List, [], _∷_, _++_}
 use mathlib.Core.Option.{Option, some, none}
 use Prim.Native.Nat.{ℕ, zero, suc, _+_, _≤_, _<_}
 use native.Mathlib.Omega.{arith}
-use lib.ListN.{length}
+use lib.ListN.{length, replicate}
 use lib.Dec.{eqb, T, eqb→eq, eqb-refl}
 use Rattle.model.specs.Code.{pick, opt, nth, put, I, Thread, Prog}
-use Rattle.model.specs.Machine.{Wait, At, St, Move, next, out, does, instr, with-thread, flushed, move, moves, empty, all-done, is-store, at-once, all-at-once}
+use Rattle.model.specs.Machine.{Wait, At, St, Move, next, out, does, instr, with-thread, flushed, move, moves, empty, starts, all-done, is-store, at-once, all-at-once}
 
 -- Options and tests
 
@@ -296,6 +296,19 @@ all-then p s t u [] ns e f = subst (λ (z : St). all-at-once p z ns ≡ some u) 
 all-then p s t u (m ∷ ms) ns e f =
   let (v, ev, e1) = opt-some (at-once p s m) _ e in
   opt-is (at-once p s m) none _ ev ∙ all-then p v t u ms ns e1 f
+-- what every move keeps, a run keeps
+pub moves-keep : (P : St → Type 0) (p : Prog) → ((s t : St) (m : Move) → P s → move p s m ≡ some t → P t) → (s t : St) (ms : List Move) → P s → moves p s ms ≡ some t → P t
+moves-keep P p f s t [] h e = subst P (some-is e) h
+moves-keep P p f s t (m ∷ ms) h e =
+  let (u, eu, e1) = opt-some (move p s m) _ e in
+  moves-keep P p f u t ms (f s u m h eu) e1
+-- a thread before its first instruction
+abbrev pub fresh : At
+fresh = record { pc = 0; regs = replicate 4 0; waits = [] }
+pub starts-each : (R : ℕ → Thread → At → Type 0) (p : Prog) → ((n : ℕ) (c : Thread) → nth p n ≡ some c → R n c fresh) → Each R p (starts p)
+starts-each R [] f n = tt
+starts-each R (t ∷ ts) f zero = f 0 t refl
+starts-each R (t ∷ ts) f (suc n) = starts-each (λ k. R (suc k)) ts (λ k. f (suc k)) n
 
 -- Finished, place by place
 
