@@ -6,3 +6,4 @@ pub mod AlsoWaiting
 pub mod RunsUnderGuards
 pub mod RunLength
 pub mod OneEnd
+pub mod EnoughFences

@@ -63,6 +63,41 @@ no-more-states g p s t [] e = e
 no-more-states g p s t (m ∷ ms) e =
   let (u, eu, e1) = opt-some (gmove g p s m) _ e in
   opt-is (move p s m) none _ (gmove-move g p s u m eu .1) ∙ no-more-states g p u t ms e1
+-- more guards, fewer runs
+pub free-less : (g h : Guard) (s : St) (m : Move) → ((n k : ℕ) → g n k ≡ true → h n k ≡ true) → free h s m ≡ true → free g s m ≡ true
+free-less g h s (next n) less f = at (nth (s .threads) n) f
+  where
+    one : (k : ℕ) (e a b : Bool) → g n k ≡ a → h n k ≡ b → not b || e ≡ true → not a || e ≡ true
+    one k true true b ea eb q = refl
+    one k true false b ea eb q = refl
+    one k false false b ea eb q = refl
+    one k false true true ea eb q = q
+    one k false true false ea eb q = absurd (false-true (sym eb ∙ less n k ea))
+    at : (o : Option At) → opt o true (λ a. not (h n (a .pc)) || empty (a .waits)) ≡ true → opt o true (λ a. not (g n (a .pc)) || empty (a .waits)) ≡ true
+    at none q = refl
+    at (some a) q = one (a .pc) (empty (a .waits)) (g n (a .pc)) (h n (a .pc)) refl refl q
+free-less g h s (out n) less f = refl
+pub gmoves-less : (g h : Guard) (p : Prog) (s t : St) (ms : List Move) → ((n k : ℕ) → g n k ≡ true → h n k ≡ true) → gmoves h p s ms ≡ some t → gmoves g p s ms ≡ some t
+gmoves-less g h p s t [] less e = e
+gmoves-less g h p s t (m ∷ ms) less e =
+  let (u, eu, e1) = opt-some (gmove h p s m) _ e in
+  let (f, em) = gmove-move h p s u m eu in
+  opt-is (gmove g p s m) none _ (move-gmove g p s u m (free-less g h s m less f) em) ∙ gmoves-less g h p u t ms less e1
+-- with no guard at all every run is one
+abbrev pub unguarded : Guard
+unguarded n k = false
+pub moves-gmoves : (p : Prog) (s t : St) (ms : List Move) → moves p s ms ≡ some t → gmoves unguarded p s ms ≡ some t
+moves-gmoves p s t [] e = e
+moves-gmoves p s t (m ∷ ms) e =
+  let (u, eu, e1) = opt-some (move p s m) _ e in
+  opt-is (gmove unguarded p s m) none _ (move-gmove unguarded p s u m (go m) eu) ∙ moves-gmoves p u t ms e1
+  where
+    at : (o : Option At) → opt o true (λ a. not false || empty (a .waits)) ≡ true
+    at none = refl
+    at (some a) = refl
+    go : (m : Move) → free unguarded s m ≡ true
+    go (next n) = at (nth (s .threads) n)
+    go (out n) = refl
 
 -- no guard forbids a move exactly if its hit is no guarded spot
 free-apart : (ss : List Spot) (s : St) (m : Move) → free (guards ss) s m ≡ true → Apart ss (hit s m)

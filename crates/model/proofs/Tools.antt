@@ -10,8 +10,8 @@ use Prim.Native.Nat.{ℕ, zero, suc, _+_, _≤_, _<_}
 use native.Mathlib.Omega.{arith}
 use lib.ListN.{length, replicate}
 use lib.Dec.{eqb, T, eqb→eq, eqb-refl}
-use Rattle.model.specs.Code.{pick, opt, nth, put, I, Thread, Prog}
-use Rattle.model.specs.Machine.{Wait, At, St, Move, next, out, does, instr, with-thread, flushed, move, moves, empty, starts, all-done, is-store, at-once, all-at-once}
+use Rattle.model.specs.Code.{pick, opt, nth, put, I, sets, adds, loads, stores, fence, Thread, Prog}
+use Rattle.model.specs.Machine.{Wait, At, St, Move, next, out, reg, done, does, instr, with-thread, flushed, move, moves, empty, starts, all-done, is-store, at-once, all-at-once}
 
 -- Options and tests
 
@@ -283,6 +283,39 @@ of-once p s n t x =
     go : ((is-store (x .first .i) ≡ true) × Out (x .mid) n t) ⊎ ((is-store (x .first .i) ≡ false) × (t ≡ x .mid)) → pick (is-store (x .first .i)) (move p (x .mid) (out n)) (some (x .mid)) ≡ some t
     go (inl (q, o)) = ap (λ (z : Bool). pick z (move p (x .mid) (out n)) (some (x .mid))) q ∙ of-out p (x .mid) n t o
     go (inr (q, e)) = ap (λ (z : Bool). pick z (move p (x .mid) (out n)) (some (x .mid))) q ∙ ap some (sym e)
+-- an instruction is a store, or it isn't
+pub store-or : (i : I) → ((x : ℕ) × (r : ℕ) × (i ≡ stores x r)) ⊎ (is-store i ≡ false)
+store-or (sets r n) = inr refl
+store-or (adds r x y) = inr refl
+store-or (loads r x) = inr refl
+store-or (stores x r) = inl (x, r, refl)
+store-or fence = inr refl
+-- only a store changes what waits
+pub does-waits : (m : List ℕ) (a b : At) (i : I) → is-store i ≡ false → does m a i ≡ some b → b .waits ≡ a .waits
+does-waits m a b (sets r n) h e = ap (λ (z : At). z .waits) (sym (some-is e))
+does-waits m a b (adds r x y) h e = ap (λ (z : At). z .waits) (sym (some-is e))
+does-waits m a b (loads r x) h e = ap (λ (z : At). z .waits) (sym (some-is e))
+does-waits m a b (stores x r) h e = absurd (false-true (sym h))
+does-waits m a b fence h e = let (q, f) = pick-some (empty (a .waits)) _ e in ap (λ (z : At). z .waits) (sym (some-is f))
+pub does-pc : (m : List ℕ) (a b : At) (i : I) → does m a i ≡ some b → b .pc ≡ suc (a .pc)
+does-pc m a b (sets r n) e = ap (λ (z : At). z .pc) (sym (some-is e))
+does-pc m a b (adds r x y) e = ap (λ (z : At). z .pc) (sym (some-is e))
+does-pc m a b (loads r x) e = ap (λ (z : At). z .pc) (sym (some-is e))
+does-pc m a b (stores x r) e = ap (λ (z : At). z .pc) (sym (some-is e))
+does-pc m a b fence e = let (q, f) = pick-some (empty (a .waits)) _ e in ap (λ (z : At). z .pc) (sym (some-is f))
+-- a step at once that is no store, and one that is
+pub once-plain : (p : Prog) (s : St) (n : ℕ) (a b : At) (c : Thread) (i : I) → nth (s .threads) n ≡ some a → nth p n ≡ some c → nth c (a .pc) ≡ some i → is-store i ≡ false → does (s .mem) a i ≡ some b → at-once p s n ≡ some (with-thread s n b)
+once-plain p s n a b c i ea ec ei h e =
+  of-once p s n (with-thread s n b) (record { mid = with-thread s n b; first = record { was = a; stands = ea; code = c; of = ec; i = i; at = ei; now = b; did = e; gives = refl }; then = inr (h, refl) })
+abbrev pub stored : At → ℕ → ℕ → Wait
+stored a x r = record { place = x; val = reg a r }
+pub once-store : (p : Prog) (s : St) (n : ℕ) (a : At) (c : Thread) (x r : ℕ) → nth (s .threads) n ≡ some a → nth p n ≡ some c → nth c (a .pc) ≡ some (stores x r) → a .waits ≡ [] → at-once p s n ≡ some (gone s n (stored a x r) (done a (a .regs) []))
+once-store p s n a c x r ea ec ei h =
+  let b = done a (a .regs) (a .waits ++ (stored a x r ∷ [])) in
+  let t = gone s n (stored a x r) (done a (a .regs) []) in
+  let u = with-thread s n b in
+  let end : t ≡ gone u n (stored a x r) (done a (a .regs) []) = ap (λ (z : List At). record { mem = put (s .mem) x (reg a r); threads = z }) (sym (put-put (s .threads) n b (done a (a .regs) []))) in
+  of-once p s n t (record { mid = u; first = record { was = a; stands = ea; code = c; of = ec; i = stores x r; at = ei; now = b; did = refl; gives = refl }; then = inl (refl, record { was = b; stands = nth-put-same (s .threads) n b ea; w = stored a x r; ws = []; line = ap (λ (z : List Wait). z ++ (stored a x r ∷ [])) h; gives = end }) })
 
 -- Runs one after the other
 
@@ -309,6 +342,10 @@ pub starts-each : (R : ℕ → Thread → At → Type 0) (p : Prog) → ((n : �
 starts-each R [] f n = tt
 starts-each R (t ∷ ts) f zero = f 0 t refl
 starts-each R (t ∷ ts) f (suc n) = starts-each (λ k. R (suc k)) ts (λ k. f (suc k)) n
+pub starts-fresh : (p : Prog) (n : ℕ) {a : At} → nth (starts p) n ≡ some a → a ≡ fresh
+starts-fresh [] n e = absurd (none-some e)
+starts-fresh (t ∷ ts) zero e = sym (some-is e)
+starts-fresh (t ∷ ts) (suc n) e = starts-fresh ts n e
 
 -- Finished, place by place
 
