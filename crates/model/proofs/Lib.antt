@@ -7,3 +7,4 @@ pub mod RunsUnderGuards
 pub mod RunLength
 pub mod OneEnd
 pub mod EnoughFences
+pub mod Blocks
