@@ -8,3 +8,4 @@ pub mod RunLength
 pub mod OneEnd
 pub mod EnoughFences
 pub mod Blocks
+pub mod FencesAreGuards

@@ -346,6 +346,9 @@ pub starts-fresh : (p : Prog) (n : ℕ) {a : At} → nth (starts p) n ≡ some a
 starts-fresh [] n e = absurd (none-some e)
 starts-fresh (t ∷ ts) zero e = sym (some-is e)
 starts-fresh (t ∷ ts) (suc n) e = starts-fresh ts n e
+pub starts-length : (p : Prog) → length (starts p) ≡ length p
+starts-length [] = refl
+starts-length (t ∷ ts) = ap suc (starts-length ts)
 
 -- Finished, place by place
 
