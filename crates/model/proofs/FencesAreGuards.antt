@@ -18,7 +18,7 @@ use Rattle.model.specs.Fences.{Spot, with-fences}
 use Rattle.model.specs.Guards.{Guard, guards, free, gmove, gmoves, Guarded, On}
 use Rattle.model.specs.Outcomes.{Waiting, At-once}
 use Rattle.model.specs.Theorems.{Fences-are-guards, Fences-at-once, More-fences}
-use Rattle.model.proofs.Tools.{none-some, some-is, false-true, nil-cons, opt-some, opt-is, pick-some, same-or, nth-below, nth-put-same, nth-put-other, put-put, put-same, Next, next-of, of-next, Out, out-of, of-out, Once, once-of, of-once, rest-of, gone, stored, store-or, does-waits, does-pc, once-plain, Each, Opts, each-at, each-both, each-back, each-make, each-put, each-left, each-right, each-length, moves-then, all-then, fresh, starts-each, starts-fresh, starts-length, done-at, at-done, empty-is, Ended}
+use Rattle.model.proofs.Tools.{none-some, some-is, false-true, nil-cons, opt-some, opt-is, pick-some, same-or, nth-below, nth-put-same, nth-put-other, put-put, put-same, Next, next-of, of-next, Out, out-of, of-out, Once, once-of, of-once, rest-of, gone, stored, store-or, does-waits, does-pc, once-plain, Each, Opts, each-at, each-both, each-back, each-make, each-put, each-left, each-right, each-length, each-map, moves-then, all-then, fresh, starts-each, starts-fresh, starts-length, done-at, at-done, empty-is, Ended}
 use Rattle.model.proofs.RunsUnderGuards.{gmove-move, move-gmove, gmoves-less, on-guards, guards-on}
 use Rattle.model.proofs.AlsoWaiting.{all-moves}
 use Rattle.model.proofs.Blocks.{blocks, start, start-suc, start-below, length-blocks, block-fence, block-own, counts, with-fences-blocks, counts-guards, guards-counts}
@@ -64,6 +64,58 @@ record After (c : ℕ → ℕ → ℕ) (p q : Prog) (s t u : St) (n : ℕ) (y : 
   step : Next q mid n to
   same : step .i ≡ y .i
   near : Near-all c p t to
+
+-- a guard lets pass exactly what finds an empty row
+calm-free : (b : Bool) (ws : List Wait) → (b ≡ true → ws ≡ []) → not b || empty ws ≡ true
+calm-free true ws f = ap empty (f refl)
+calm-free false ws f = refl
+free-calm : (b : Bool) (ws : List Wait) → not b || empty ws ≡ true → b ≡ true → ws ≡ []
+free-calm true ws f e = empty-is ws f
+free-calm false ws f e = absurd (false-true e)
+regs-same : (as₁ bs : List At) → Each (λ n a b. a .regs ≡ b .regs) as₁ bs → regs-of as₁ ≡ regs-of bs
+regs-same [] [] h = refl
+regs-same [] (b ∷ bs) h = absurd (h 0)
+regs-same (a ∷ as₁) [] h = absurd (h 0)
+regs-same (a ∷ as₁) (b ∷ bs) h = let e : a .regs ≡ b .regs = h 0 in let f = regs-same as₁ bs (λ n. h (suc n)) in cc
+-- at once nothing waits
+abbrev Quiet : St → Type 0
+Quiet s = (n : ℕ) (a : At) → nth (s .threads) n ≡ some a → a .waits ≡ []
+begin-quiet : (p : Prog) → Quiet (begin p)
+begin-quiet p n a e = ap (λ (z : At). z .waits) (starts-fresh p n e)
+quiet-put : (as₁ : List At) (n : ℕ) (b : At) → ((m : ℕ) (a : At) → nth as₁ m ≡ some a → a .waits ≡ []) → b .waits ≡ [] → (m : ℕ) (a : At) → nth (put as₁ n b) m ≡ some a → a .waits ≡ []
+quiet-put [] n b h e m a q = absurd (none-some q)
+quiet-put (x ∷ as₁) zero b h e zero a q = ap (λ (z : At). z .waits) (sym (some-is q)) ∙ e
+quiet-put (x ∷ as₁) zero b h e (suc m) a q = h (suc m) a q
+quiet-put (x ∷ as₁) (suc n) b h e zero a q = h zero a q
+quiet-put (x ∷ as₁) (suc n) b h e (suc m) a q = quiet-put as₁ n b (λ k. h (suc k)) e m a q
+store-row : (m : List ℕ) (a b : At) (i : I) → is-store i ≡ true → does m a i ≡ some b → a .waits ≡ [] → (w : Wait) × (b .waits ≡ w ∷ [])
+store-row m a b (sets r n) q e h = absurd (false-true q)
+store-row m a b (adds r x y) q e h = absurd (false-true q)
+store-row m a b (loads r x) q e h = absurd (false-true q)
+store-row m a b (stores x r) q e h = (stored a x r, ap (λ (z : At). z .waits) (sym (some-is e)) ∙ ap (λ (z : List Wait). z ++ (stored a x r ∷ [])) h)
+store-row m a b fence q e h = absurd (false-true q)
+once-quiet : (p : Prog) (s t : St) (n : ℕ) → Quiet s → Once p s n t → Quiet t
+once-quiet p s t n h x = elim (x .then) [ inl st ↦ stored-quiet (st .0) (st .1) | inr st ↦ subst Quiet (sym (st .1 ∙ f .gives)) (quiet-put (s .threads) n (f .now) h (does-waits (s .mem) (f .was) (f .now) (f .i) (st .0) (f .did) ∙ before)) ]
+  where
+    f : Next p s n (x .mid)
+    f = x .first
+    before : f .was .waits ≡ []
+    before = h n (f .was) (f .stands)
+    stored-quiet : is-store (f .i) ≡ true → Out (x .mid) n t → Quiet t
+    stored-quiet q o =
+      let (w, ew) = store-row (s .mem) (f .was) (f .now) (f .i) q (f .did) before in
+      let here : nth (x .mid .threads) n ≡ some (f .now) = ap (λ (z : St). nth (z .threads) n) (f .gives) ∙ nth-put-same (s .threads) n (f .now) (f .stands) in
+      let line : o .w ∷ o .ws ≡ w ∷ [] = sym (o .line) ∙ (ap (λ (z : At). z .waits) (some-is (sym (o .stands) ∙ here)) ∙ ew) in
+      let gone-all : o .ws ≡ [] = cc in
+      let a : At = rest-of (o .was) (o .ws) in
+      let threads : t .threads ≡ put (s .threads) n a = ap (λ (z : St). z .threads) (o .gives) ∙ (ap (λ (z : St). put (z .threads) n a) (f .gives) ∙ put-put (s .threads) n (f .now) a) in
+      λ m b e. quiet-put (s .threads) n a h gone-all m b (ap (λ (z : List At). nth z m) (sym threads) ∙ e)
+-- an instruction done under guards found an empty row if it is guarded
+guarded-calm : (g : Guard) (p : Prog) (s t : St) (n : ℕ) → gmove g p s (next n) ≡ some t → (y : Next p s n t) × (g n (y .was .pc) ≡ true → y .was .waits ≡ [])
+guarded-calm g p s t n e =
+  let (may, em) = gmove-move g p s t (next n) e in
+  let y = next-of p s n t em in
+  (y, free-calm (g n (y .was .pc)) (y .was .waits) (sym (opt-is (nth (s .threads) n) true (λ a. not (g n (a .pc)) || empty (a .waits)) (y .stands)) ∙ may))
 
 module _ (c : ℕ → ℕ → ℕ) (p q : Prog) (made : Each (λ n t u. u ≡ blocks (c n) t) p q) where
   near-begin : Near-all c p (begin p) (begin q)
@@ -194,3 +246,112 @@ module _ (c : ℕ → ℕ → ℕ) (p q : Prog) (made : Each (λ n t u. u ≡ bl
         let at-end : start (c n) (a .pc) ≡ start (c n) (length code) = ap (start (c n)) pc in
         let long : length f ≡ start (c n) (length code) = ap length made-f ∙ length-blocks (c n) code in
         (b, eb, (omega arith, ap (λ (z : At). z .waits) (h .is) ∙ row))
+  near-outcome : (s u : St) → Near-all c p s u → outcome s ≡ outcome u
+  near-outcome s u (em, hs) = ap (λ (z : List ℕ). z ++ s .mem) (regs-same (s .threads) (u .threads) (each-map (Near p c) (λ n a b. a .regs ≡ b .regs) (s .threads) (u .threads) (λ n a b h. ap (λ (z : At). z .regs) (sym (h .is))) hs)) ∙ ap (λ (z : List ℕ). regs-of (u .threads) ++ z) em
+
+  -- where stores wait: a run of the program with fences is a run under guards
+  fenced-runs : (g : Guard) → ((n k : ℕ) → g n k ≡ true → 0 < c n k) → (s u v : St) (ms : List Move) → Near-all c p s u → moves q u ms ≡ some v → (ns : List Move) × (t : St) × (gmoves g p s ns ≡ some t) × Near-all c p t v
+  fenced-runs g counted s u v [] h e = ([], s, refl, subst (Near-all c p s) (some-is e) h)
+  fenced-runs g counted s u v (next n ∷ ms) h e =
+    let (w, ew, e1) = opt-some (move q u (next n)) _ e in
+    elim (fenced-next s u w n h (next-of q u n w ew)) [ inl st ↦ fenced-runs g counted s w v ms (st .1) e1 | inr x ↦ first x (fenced-runs g counted (x .to) w v ms (x .near) e1) ]
+    where
+      first : {w : St} {y : Next q u n w} (x : Same c p q s u w n y) → (ns : List Move) × (t : St) × (gmoves g p (x .to) ns ≡ some t) × Near-all c p t v → (ns : List Move) × (t : St) × (gmoves g p s ns ≡ some t) × Near-all c p t v
+      first x (ns, t, en, k) =
+        let a : At = x .step .was in
+        let may : free g s (next n) ≡ true = opt-is (nth (s .threads) n) true _ (x .step .stands) ∙ calm-free (g n (a .pc)) (a .waits) (λ z. x .calm (counted n (a .pc) z)) in
+        (next n ∷ ns, t, opt-is (gmove g p s (next n)) none (λ z. gmoves g p z ns) (move-gmove g p s (x .to) (next n) may (of-next p s n (x .to) (x .step))) ∙ en, k)
+  fenced-runs g counted s u v (out n ∷ ms) h e =
+    let (w, ew, e1) = opt-some (move q u (out n)) _ e in
+    let (t, x, k) = fenced-out s u w n h (out-of q u n w ew) in
+    let (ns, z, en, l) = fenced-runs g counted t w v ms k e1 in
+    (out n ∷ ns, z, opt-is (gmove g p s (out n)) none (λ y. gmoves g p y ns) (of-out p s n t x) ∙ en, l)
+  -- and the other way
+  after-runs : (s t u v : St) (n : ℕ) (y : Next p s n t) (x : After c p q s t u n y) (ns : List Move) → moves q (x .to) ns ≡ some v → (ks : List Move) × (moves q u ks ≡ some v)
+  after-runs s t u v n y x ns e =
+    let (bs, eb) = all-moves q u (x .mid) (x .ns) (x .run) in
+    (bs ++ (next n ∷ ns), moves-then q u (x .mid) v bs (next n ∷ ns) eb (opt-is (move q (x .mid) (next n)) none (λ z. moves q z ns) (of-next q (x .mid) n (x .to) (x .step)) ∙ e))
+  guarded-runs : (g : Guard) → ((n k : ℕ) → 0 < c n k → g n k ≡ true) → (s t u : St) (ms : List Move) → Near-all c p s u → gmoves g p s ms ≡ some t → (ns : List Move) × (v : St) × (moves q u ns ≡ some v) × Near-all c p t v
+  guarded-runs g counted s t u [] h e = ([], u, refl, subst (λ (z : St). Near-all c p z u) (some-is e) h)
+  guarded-runs g counted s t u (next n ∷ ms) h e =
+    let (w, ew, e1) = opt-some (gmove g p s (next n)) _ e in
+    let (y, calm) = guarded-calm g p s w n ew in
+    let x = guarded-next s w u n h y (λ z. calm (counted n (y .was .pc) z)) in
+    let (ns, v, en, k) = guarded-runs g counted w t (x .to) ms (x .near) e1 in
+    let (ks, ek) = after-runs s w u v n y x ns en in
+    (ks, v, ek, k)
+  guarded-runs g counted s t u (out n ∷ ms) h e =
+    let (w, ew, e1) = opt-some (move p s (out n)) _ e in
+    let (v, x, k) = guarded-out s w u n h (out-of p s n w ew) in
+    let (ns, z, en, l) = guarded-runs g counted w t v ms k e1 in
+    (out n ∷ ns, z, opt-is (move q u (out n)) none (λ y. moves q y ns) (of-out q u n v x) ∙ en, l)
+
+  -- at once: a step of the program with fences is a step of the program, or a fence
+  fenced-once : (s u v : St) (n : ℕ) → Near-all c p s u → Once q u n v → (ns : List ℕ) × (t : St) × (all-at-once p s ns ≡ some t) × Near-all c p t v
+  fenced-once s u v n h x = elim (fenced-next s u (x .mid) n h (x .first)) [ inl st ↦ a-fence (st .0) (st .1) (x .then) | inr y ↦ a-step y (x .then) ]
+    where
+      a-fence : x .first .i ≡ fence → Near-all c p s (x .mid) → ((is-store (x .first .i) ≡ true) × Out (x .mid) n v) ⊎ ((is-store (x .first .i) ≡ false) × (v ≡ x .mid)) → (ns : List ℕ) × (t : St) × (all-at-once p s ns ≡ some t) × Near-all c p t v
+      a-fence f k (inl st) = absurd (false-true (sym (ap is-store f) ∙ st .0))
+      a-fence f k (inr st) = ([], s, refl, subst (Near-all c p s) (sym (st .1)) k)
+      a-step : Same c p q s u (x .mid) n (x .first) → ((is-store (x .first .i) ≡ true) × Out (x .mid) n v) ⊎ ((is-store (x .first .i) ≡ false) × (v ≡ x .mid)) → (ns : List ℕ) × (t : St) × (all-at-once p s ns ≡ some t) × Near-all c p t v
+      a-step y (inl st) =
+        let (t, o, k) = fenced-out (y .to) (x .mid) v n (y .near) (st .1) in
+        (n ∷ [], t, opt-is (at-once p s n) none _ (of-once p s n t (record { mid = y .to; first = y .step; then = inl (ap is-store (y .same) ∙ st .0, o) })), k)
+      a-step y (inr st) =
+        (n ∷ [], y .to, opt-is (at-once p s n) none _ (of-once p s n (y .to) (record { mid = y .to; first = y .step; then = inr (ap is-store (y .same) ∙ st .0, refl) })), subst (Near-all c p (y .to)) (sym (st .1)) (y .near))
+  fenced-at-once : (s u v : St) (ms : List ℕ) → Near-all c p s u → all-at-once q u ms ≡ some v → (ns : List ℕ) × (t : St) × (all-at-once p s ns ≡ some t) × Near-all c p t v
+  fenced-at-once s u v [] h e = ([], s, refl, subst (Near-all c p s) (some-is e) h)
+  fenced-at-once s u v (n ∷ ms) h e =
+    let (w, ew, e1) = opt-some (at-once q u n) _ e in
+    let (ns, t, en, k) = fenced-once s u w n h (once-of q u n w ew) in
+    let (ks, z, ez, l) = fenced-at-once t w v ms k e1 in
+    (ns ++ ks, z, all-then p s t z ns ks en ez, l)
+  -- a step of the program is the fences before it and then that step; at once nothing ever waits
+  plain-once : (s t u : St) (n : ℕ) → Near-all c p s u → Quiet s → Once p s n t → (ns : List ℕ) × (v : St) × (all-at-once q u ns ≡ some v) × Near-all c p t v
+  plain-once s t u n h quiet x = last (guarded-next s (x .mid) u n h (x .first) (λ z. quiet n (x .first .was) (x .first .stands))) (x .then)
+    where
+      ends : (y : After c p q s (x .mid) u n (x .first)) (v : St) → at-once q (y .mid) n ≡ some v → Near-all c p t v → (ns : List ℕ) × (v : St) × (all-at-once q u ns ≡ some v) × Near-all c p t v
+      ends y v e k = (y .ns ++ (n ∷ []), v, all-then q u (y .mid) v (y .ns) (n ∷ []) (y .run) (opt-is (at-once q (y .mid) n) none _ e), k)
+      last : (y : After c p q s (x .mid) u n (x .first)) → ((is-store (x .first .i) ≡ true) × Out (x .mid) n t) ⊎ ((is-store (x .first .i) ≡ false) × (t ≡ x .mid)) → (ns : List ℕ) × (v : St) × (all-at-once q u ns ≡ some v) × Near-all c p t v
+      last y (inl st) =
+        let (v, o, k) = guarded-out (x .mid) t (y .to) n (y .near) (st .1) in
+        ends y v (of-once q (y .mid) n v (record { mid = y .to; first = y .step; then = inl (ap is-store (y .same) ∙ st .0, o) })) k
+      last y (inr st) =
+        ends y (y .to) (of-once q (y .mid) n (y .to) (record { mid = y .to; first = y .step; then = inr (ap is-store (y .same) ∙ st .0, refl) })) (subst (λ (z : St). Near-all c p z (y .to)) (sym (st .1)) (y .near))
+  plain-at-once : (s t u : St) (ms : List ℕ) → Near-all c p s u → Quiet s → all-at-once p s ms ≡ some t → (ns : List ℕ) × (v : St) × (all-at-once q u ns ≡ some v) × Near-all c p t v
+  plain-at-once s t u [] h quiet e = ([], u, refl, subst (λ (z : St). Near-all c p z u) (some-is e) h)
+  plain-at-once s t u (n ∷ ms) h quiet e =
+    let (w, ew, e1) = opt-some (at-once p s n) _ e in
+    let x = once-of p s n w ew in
+    let (ns, v, en, k) = plain-once s w u n h quiet x in
+    let (ks, z, ez, l) = plain-at-once w t v ms k (once-quiet p s w n quiet x) e1 in
+    (ns ++ ks, z, all-then q u v z ns ks en ez, l)
+
+module _ (ss : List Spot) (p : Prog) (o : List ℕ) where
+  made-of : Each (λ n t u. u ≡ blocks (counts ss n) t) p (with-fences ss p)
+  made-of = with-fences-blocks ss p
+  waits-guarded : Waiting (with-fences ss p) o → Guarded (guards ss) p o
+  waits-guarded (ms, u, e, d, w) =
+    let (ns, s, en, h) = fenced-runs (counts ss) p (with-fences ss p) made-of (guards ss) (guards-counts ss) (begin p) (begin (with-fences ss p)) u ms (near-begin (counts ss) p (with-fences ss p) made-of) e in
+    (ns, s, en, fenced-done (counts ss) p (with-fences ss p) made-of s u h d, near-outcome (counts ss) p (with-fences ss p) made-of s u h ∙ w)
+  guarded-waits : Guarded (guards ss) p o → Waiting (with-fences ss p) o
+  guarded-waits (ms, s, e, d, w) =
+    let (ns, u, en, h) = guarded-runs (counts ss) p (with-fences ss p) made-of (guards ss) (counts-guards ss) (begin p) s (begin (with-fences ss p)) ms (near-begin (counts ss) p (with-fences ss p) made-of) e in
+    (ns, u, en, guarded-done (counts ss) p (with-fences ss p) made-of s u h d, sym (near-outcome (counts ss) p (with-fences ss p) made-of s u h) ∙ w)
+  fenced-plain : At-once (with-fences ss p) o → At-once p o
+  fenced-plain (ms, u, e, d, w) =
+    let (ns, s, en, h) = fenced-at-once (counts ss) p (with-fences ss p) made-of (begin p) (begin (with-fences ss p)) u ms (near-begin (counts ss) p (with-fences ss p) made-of) e in
+    (ns, s, en, fenced-done (counts ss) p (with-fences ss p) made-of s u h d, near-outcome (counts ss) p (with-fences ss p) made-of s u h ∙ w)
+  plain-fenced : At-once p o → At-once (with-fences ss p) o
+  plain-fenced (ms, s, e, d, w) =
+    let (ns, u, en, h) = plain-at-once (counts ss) p (with-fences ss p) made-of (begin p) s (begin (with-fences ss p)) ms (near-begin (counts ss) p (with-fences ss p) made-of) (begin-quiet p) e in
+    (ns, u, en, guarded-done (counts ss) p (with-fences ss p) made-of s u h d, sym (near-outcome (counts ss) p (with-fences ss p) made-of s u h) ∙ w)
+pub fences-are-guards : Fences-are-guards
+fences-are-guards ss p o = (waits-guarded ss p o, guarded-waits ss p o)
+pub fences-at-once : Fences-at-once
+fences-at-once ss p o = (fenced-plain ss p o, plain-fenced ss p o)
+-- more fences are more guards
+pub more-fences : More-fences
+more-fences ss ts p o sub w =
+  let (ms, s, e, d, q) = waits-guarded ts p o w in
+  guarded-waits ss p o (ms, s, gmoves-less (guards ss) (guards ts) p (begin p) s ms (λ n k g. on-guards (record { thread = n; index = k }) ts (sub _ (guards-on n k ss g))) e, d, q)

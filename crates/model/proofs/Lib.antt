@@ -9,3 +9,6 @@ pub mod OneEnd
 pub mod EnoughFences
 pub mod Blocks
 pub mod FencesAreGuards
+pub mod ByStates
+pub mod Clauses
+pub mod SomeListWorks
