@@ -12,3 +12,4 @@ pub mod FencesAreGuards
 pub mod ByStates
 pub mod Clauses
 pub mod SomeListWorks
+pub mod Theorems

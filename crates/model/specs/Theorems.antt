@@ -68,3 +68,19 @@ By-states = (ss : List Spot) (p : Prog) → Is-plain (with-fences ss p) ↔ ((ms
 -- a run has at most twice as many moves as the program has instructions
 abbrev pub Run-length : Type 0
 Run-length = (p : Prog) (ms : List Move) (s : St) → moves p (begin p) ms ≡ some s → length ms ≤ 2 * size p
+-- all of these
+pub record Theorems : Type 0 where
+  pub one-program : One-program
+  pub also-waiting : Also-waiting
+  pub enough : Enough
+  pub fences-are-guards : Fences-are-guards
+  pub fences-at-once : Fences-at-once
+  pub more-fences : More-fences
+  pub no-more-states : No-more-states
+  pub still-a-run : Still-a-run
+  pub must-hit : Must-hit
+  pub some-list-works : Some-list-works
+  pub by-clauses : By-clauses
+  pub one-end : One-end
+  pub by-states : By-states
+  pub run-length : Run-length
