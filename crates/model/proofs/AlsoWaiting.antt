@@ -1,5 +1,5 @@
 -- What comes out at once comes out where stores wait: a step at once is one or two moves.
-use mathlib.Core.Path.{_≡_, refl, sym, ap, _∙_}
+use mathlib.Core.Path.{_≡_, sym, ap, _∙_}
 use mathlib.Core.Logic.{inl, inr}
 use mathlib.Core.List.{List, [], _∷_}
 use mathlib.Core.Option.{Option, some, none}
@@ -15,11 +15,13 @@ step-moves p s t u n ms x e = elim (x .then) [ inl st ↦ (next n ∷ out n ∷ 
   where
     one : (f : St → Option St) → opt (move p s (next n)) none f ≡ f (x .mid)
     one f = opt-is (move p s (next n)) none f (of-next p s n (x .mid) (x .first))
+
 pub all-moves : (p : Prog) (s t : St) (ns : List ℕ) → all-at-once p s ns ≡ some t → (ms : List Move) × (moves p s ms ≡ some t)
 all-moves p s t [] e = ([], e)
 all-moves p s t (n ∷ ns) e =
-  let (u, eu, e1) = opt-some (at-once p s n) _ e in
-  let (ms, em) = all-moves p u t ns e1 in
-  step-moves p s u t n ms (once-of p s n u eu) em
+    let (u, eu, e1) = opt-some (at-once p s n) _ e in
+    let (ms, em) = all-moves p u t ns e1 in
+    step-moves p s u t n ms (once-of p s n u eu) em
+
 pub also-waiting : Also-waiting
 also-waiting p o (ns, s, e, d, q) = let (ms, em) = all-moves p (begin p) s ns e in (ms, s, em, d, q)

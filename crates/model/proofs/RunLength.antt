@@ -1,58 +1,65 @@
 -- A run has at most twice as many moves as the program has instructions: each instruction not yet done counts two and
 -- each store that waits counts one, and every move lowers the sum.
-use mathlib.Core.Path.{_≡_, refl, sym, ap, _∙_, subst}
-use mathlib.Core.List.{List, [], _∷_, _++_}
+use mathlib.Core.Path.{_≡_, refl, ap, subst}
+use mathlib.Core.List.{List, [], _∷_}
 use mathlib.Core.Option.{Option, some, none}
-use mathlib.Core.Bool.{Bool, true, false}
 use Prim.Native.Nat.{ℕ, zero, suc, _+_, _*_, _-_, _≤_, _<_}
 use native.Mathlib.Omega.{arith}
 use lib.ListN.{length, length-append}
-use Rattle.model.specs.Code.{pick, nth, put, I, sets, adds, loads, stores, fence, size, Thread, Prog}
+use Rattle.model.specs.Code.{nth, put, I, sets, adds, loads, stores, fence, size, Thread, Prog}
 use Rattle.model.specs.Machine.{Wait, At, St, Move, next, out, move, moves, starts, begin, does, empty}
 use Rattle.model.specs.Theorems.{Run-length}
-use Rattle.model.proofs.Tools.{opt-some, some-is, none-some, nth-below, next-of, out-of, Next, Out, rest-of, pick-some}
+use Rattle.model.proofs.Tools.{opt-some, some-is, none-some, nth-below, next-of, out-of, rest-of, pick-some}
 
 -- what a thread can still do at most; a thread with no code can only let its stores out
 abbrev cost : Option Thread → At → ℕ
 cost none a = length (a .waits)
 cost (some c) a = 2 * (length c - a .pc) + length (a .waits)
+
 abbrev left : Prog → List At → ℕ
 left p [] = 0
 left [] (a ∷ as₁) = cost none a + left [] as₁
 left (t ∷ ts) (a ∷ as₁) = cost (some t) a + left ts as₁
+
 left-put : (p : Prog) (as₁ : List At) (n : ℕ) (a b : At) → nth as₁ n ≡ some a → cost (nth p n) b < cost (nth p n) a → left p (put as₁ n b) < left p as₁
 left-put p [] n a b e h = absurd (none-some e)
 left-put [] (x ∷ as₁) zero a b e h = let q : length (x .waits) ≡ length (a .waits) = ap (λ (z : At). length (z .waits)) (some-is e) in omega arith
 left-put [] (x ∷ as₁) (suc n) a b e h = let k = left-put [] as₁ n a b e h in omega arith
 left-put (t ∷ ts) (x ∷ as₁) zero a b e h = let q : cost (some t) x ≡ cost (some t) a = ap (cost (some t)) (some-is e) in omega arith
 left-put (t ∷ ts) (x ∷ as₁) (suc n) a b e h = let k = left-put ts as₁ n a b e h in omega arith
+
 does-cost : (m : List ℕ) (c : Thread) (a b : At) (i : I) → a .pc < length c → does m a i ≡ some b → cost (some c) b < cost (some c) a
 does-cost m c a b (sets r n) h e = subst (λ (z : At). cost (some c) z < cost (some c) a) (some-is e) (omega arith)
 does-cost m c a b (adds r x y) h e = subst (λ (z : At). cost (some c) z < cost (some c) a) (some-is e) (omega arith)
 does-cost m c a b (loads r x) h e = subst (λ (z : At). cost (some c) z < cost (some c) a) (some-is e) (omega arith)
 does-cost m c a b (stores x r) h e = subst (λ (z : At). cost (some c) z < cost (some c) a) (some-is e) (simp length-append (omega arith))
 does-cost m c a b fence h e = let (q, f) = pick-some (empty (a .waits)) _ e in subst (λ (z : At). cost (some c) z < cost (some c) a) (some-is f) (omega arith)
+
 out-cost : (o : Option Thread) (a : At) (w : Wait) (ws : List Wait) → a .waits ≡ w ∷ ws → cost o (rest-of a ws) < cost o a
 out-cost none a w ws e = let q : length (a .waits) ≡ suc (length ws) = ap length e in omega arith
 out-cost (some c) a w ws e = let q : length (a .waits) ≡ suc (length ws) = ap length e in omega arith
+
 move-left : (p : Prog) (s t : St) (m : Move) → move p s m ≡ some t → left p (t .threads) < left p (s .threads)
 move-left p s t (next n) e =
-  let x = next-of p s n t e in
-  let h = does-cost (s .mem) (x .code) (x .was) (x .now) (x .i) (nth-below (x .code) (x .was .pc) (x .at)) (x .did) in
-  let k : cost (nth p n) (x .now) < cost (nth p n) (x .was) = rw (x .of) h in
-  rw (x .gives) (left-put p (s .threads) n (x .was) (x .now) (x .stands) k)
+    let x = next-of p s n t e in
+    let h = does-cost (s .mem) (x .code) (x .was) (x .now) (x .i) (nth-below (x .code) (x .was .pc) (x .at)) (x .did) in
+    let k : cost (nth p n) (x .now) < cost (nth p n) (x .was) = rw (x .of) h in
+    rw (x .gives) (left-put p (s .threads) n (x .was) (x .now) (x .stands) k)
 move-left p s t (out n) e =
-  let x = out-of p s n t e in
-  rw (x .gives) (left-put p (s .threads) n (x .was) (rest-of (x .was) (x .ws)) (x .stands) (out-cost (nth p n) (x .was) (x .w) (x .ws) (x .line)))
+    let x = out-of p s n t e in
+    rw (x .gives) (left-put p (s .threads) n (x .was) (rest-of (x .was) (x .ws)) (x .stands) (out-cost (nth p n) (x .was) (x .w) (x .ws) (x .line)))
+
 moves-left : (p : Prog) (s t : St) (ms : List Move) → moves p s ms ≡ some t → length ms + left p (t .threads) ≤ left p (s .threads)
 moves-left p s t [] e = let q : left p (s .threads) ≡ left p (t .threads) = ap (λ (z : St). left p (z .threads)) (some-is e) in omega arith
 moves-left p s t (m ∷ ms) e =
-  let (u, eu, e1) = opt-some (move p s m) _ e in
-  let h = move-left p s u m eu in
-  let k = moves-left p u t ms e1 in
-  omega arith
+    let (u, eu, e1) = opt-some (move p s m) _ e in
+    let h = move-left p s u m eu in
+    let k = moves-left p u t ms e1 in
+    omega arith
+
 left-begin : (p : Prog) → left p (starts p) ≡ 2 * size p
 left-begin [] = refl
 left-begin (t ∷ ts) = let h = left-begin ts in omega arith
+
 pub run-length : Run-length
 run-length p ms s e = let h = moves-left p (begin p) s ms e in let k = left-begin p in omega arith
