@@ -18,7 +18,7 @@ use Rattle.model.specs.Fences.{Spot, with-fences}
 use Rattle.model.specs.Guards.{Guard, guards, free, gmove, gmoves, Guarded}
 use Rattle.model.specs.Outcomes.{Waiting, At-once}
 use Rattle.model.specs.Theorems.{Fences-are-guards, Fences-at-once, More-fences}
-use Rattle.model.proofs.Tools.{none-some, some-is, false-true, nil-cons, opt-some, opt-is, pick-some, same-or, nth-below, nth-put-same, put-put, put-same, Next, next-of, of-next, Out, out-of, of-out, Once, once-of, of-once, rest-of, gone, stored, does-waits, does-pc, once-plain, Each, each-at, each-both, each-back, each-make, each-put, each-right, each-length, each-map, moves-then, all-then, fresh, starts-each, starts-fresh, starts-length, done-at, at-done, empty-is, Ended}
+use Rattle.model.proofs.Tools.{none-some, some-is, false-true, nil-cons, opt-some, opt-is, pick-some, same-or, nth-below, nth-put-same, put-put, put-same, Next, next-of, of-next, Out, out-of, of-out, Ends, Once, once-of, of-once, rest-of, gone, stored, store-or, does-waits, does-pc, once-plain, Each, each-at, each-both, each-back, each-make, each-put, each-right, each-length, each-map, moves-then, all-then, fresh, starts-each, starts-fresh, starts-length, done-at, at-done, empty-is, Ended}
 use Rattle.model.proofs.RunsUnderGuards.{gmove-move, move-gmove, gmoves-less, on-guards, guards-on}
 use Rattle.model.proofs.AlsoWaiting.{all-moves}
 use Rattle.model.proofs.Blocks.{blocks, start, start-suc, start-below, length-blocks, block-fence, block-own, counts, with-fences-blocks, counts-guards, guards-counts}
@@ -49,6 +49,20 @@ record Near (p : Prog) (c : ℕ → ℕ → ℕ) (n : ℕ) (a b : At) : Type 0 w
 
 abbrev Near-all : (ℕ → ℕ → ℕ) → Prog → St → St → Type 0
 Near-all c p s u = (s .mem ≡ u .mem) × Each (Near p c) (s .threads) (u .threads)
+
+-- a run of the program from s, under guards or at once, to a state near v
+abbrev Guarded-near : (ℕ → ℕ → ℕ) → Guard → Prog → St → St → Type 0
+Guarded-near c g p s v = (ns : List Move) × (t : St) × (gmoves g p s ns ≡ some t) × Near-all c p t v
+
+abbrev Plain-near : (ℕ → ℕ → ℕ) → Prog → St → St → Type 0
+Plain-near c p s v = (ns : List ℕ) × (t : St) × (all-at-once p s ns ≡ some t) × Near-all c p t v
+
+-- a run of the program with fences from u, where stores wait or at once, to a state that t is near
+abbrev Waiting-near : (ℕ → ℕ → ℕ) → Prog → Prog → St → St → Type 0
+Waiting-near c p q t u = (ns : List Move) × (v : St) × (moves q u ns ≡ some v) × Near-all c p t v
+
+abbrev Fenced-near : (ℕ → ℕ → ℕ) → Prog → Prog → St → St → Type 0
+Fenced-near c p q t u = (ns : List ℕ) × (v : St) × (all-at-once q u ns ≡ some v) × Near-all c p t v
 
 -- the program does what the program with fences did
 record Same (c : ℕ → ℕ → ℕ) (p q : Prog) (s u v : St) (n : ℕ) (x : Next q u n v) : Type 0 where
@@ -98,11 +112,7 @@ quiet-put (x ∷ as₁) (suc n) b h e zero a q = h zero a q
 quiet-put (x ∷ as₁) (suc n) b h e (suc m) a q = quiet-put as₁ n b (λ k. h (suc k)) e m a q
 
 store-row : (m : List ℕ) (a b : At) (i : I) → is-store i ≡ true → does m a i ≡ some b → a .waits ≡ [] → (w : Wait) × (b .waits ≡ w ∷ [])
-store-row m a b (sets r n) q e h = absurd (false-true q)
-store-row m a b (adds r x y) q e h = absurd (false-true q)
-store-row m a b (loads r x) q e h = absurd (false-true q)
-store-row m a b (stores x r) q e h = (stored a x r, ap (λ (z : At). z .waits) (sym (some-is e)) ∙ ap (λ (z : List Wait). z ++ (stored a x r ∷ [])) h)
-store-row m a b fence q e h = absurd (false-true q)
+store-row m a b i q e h = elim (store-or i) [ inl st ↦ (stored a (st .0) (st .1), ap (λ (z : At). z .waits) (sym (some-is (subst (λ (z : I). does m a z ≡ some b) (st .2) e))) ∙ ap (λ (z : List Wait). z ++ (stored a (st .0) (st .1) ∷ [])) h) | inr f ↦ absurd (false-true (sym f ∙ q)) ]
 
 once-quiet : (p : Prog) (s t : St) (n : ℕ) → Quiet s → Once p s n t → Quiet t
 once-quiet p s t n h x = elim (x .then) [ inl st ↦ stored-quiet (st .0) (st .1) | inr st ↦ subst Quiet (sym (st .1 ∙ f .gives)) (quiet-put (s .threads) n (f .now) h (does-waits (s .mem) (f .was) (f .now) (f .i) (st .0) (f .did) ∙ before)) ]
@@ -269,13 +279,13 @@ module _ (c : ℕ → ℕ → ℕ) (p q : Prog) (made : Each (λ n t u. u ≡ bl
   near-outcome s u (em, hs) = ap (λ (z : List ℕ). z ++ s .mem) (regs-same (s .threads) (u .threads) (each-map (Near p c) (λ n a b. a .regs ≡ b .regs) (s .threads) (u .threads) (λ n a b h. ap (λ (z : At). z .regs) (sym (h .is))) hs)) ∙ ap (λ (z : List ℕ). regs-of (u .threads) ++ z) em
 
   -- where stores wait: a run of the program with fences is a run under guards
-  fenced-runs : (g : Guard) → ((n k : ℕ) → g n k ≡ true → 0 < c n k) → (s u v : St) (ms : List Move) → Near-all c p s u → moves q u ms ≡ some v → (ns : List Move) × (t : St) × (gmoves g p s ns ≡ some t) × Near-all c p t v
+  fenced-runs : (g : Guard) → ((n k : ℕ) → g n k ≡ true → 0 < c n k) → (s u v : St) (ms : List Move) → Near-all c p s u → moves q u ms ≡ some v → Guarded-near c g p s v
   fenced-runs g counted s u v [] h e = ([], s, refl, subst (Near-all c p s) (some-is e) h)
   fenced-runs g counted s u v (next n ∷ ms) h e =
       let (w, ew, e1) = opt-some (move q u (next n)) _ e in
       elim (fenced-next s u w n h (next-of q u n w ew)) [ inl st ↦ fenced-runs g counted s w v ms (st .1) e1 | inr x ↦ first x (fenced-runs g counted (x .to) w v ms (x .near) e1) ]
     where
-      first : {w : St} {y : Next q u n w} (x : Same c p q s u w n y) → (ns : List Move) × (t : St) × (gmoves g p (x .to) ns ≡ some t) × Near-all c p t v → (ns : List Move) × (t : St) × (gmoves g p s ns ≡ some t) × Near-all c p t v
+      first : {w : St} {y : Next q u n w} (x : Same c p q s u w n y) → Guarded-near c g p (x .to) v → Guarded-near c g p s v
       first x (ns, t, en, k) =
           let a : At = x .step .was in
           let may : free g s (next n) ≡ true = opt-is (nth (s .threads) n) true _ (x .step .stands) ∙ calm-free (g n (a .pc)) (a .waits) (λ z. x .calm (counted n (a .pc) z)) in
@@ -292,7 +302,7 @@ module _ (c : ℕ → ℕ → ℕ) (p q : Prog) (made : Each (λ n t u. u ≡ bl
       let (bs, eb) = all-moves q u (x .mid) (x .ns) (x .run) in
       (bs ++ (next n ∷ ns), moves-then q u (x .mid) v bs (next n ∷ ns) eb (opt-is (move q (x .mid) (next n)) none (λ z. moves q z ns) (of-next q (x .mid) n (x .to) (x .step)) ∙ e))
 
-  guarded-runs : (g : Guard) → ((n k : ℕ) → 0 < c n k → g n k ≡ true) → (s t u : St) (ms : List Move) → Near-all c p s u → gmoves g p s ms ≡ some t → (ns : List Move) × (v : St) × (moves q u ns ≡ some v) × Near-all c p t v
+  guarded-runs : (g : Guard) → ((n k : ℕ) → 0 < c n k → g n k ≡ true) → (s t u : St) (ms : List Move) → Near-all c p s u → gmoves g p s ms ≡ some t → Waiting-near c p q t u
   guarded-runs g counted s t u [] h e = ([], u, refl, subst (λ (z : St). Near-all c p z u) (some-is e) h)
   guarded-runs g counted s t u (next n ∷ ms) h e =
       let (w, ew, e1) = opt-some (gmove g p s (next n)) _ e in
@@ -308,21 +318,21 @@ module _ (c : ℕ → ℕ → ℕ) (p q : Prog) (made : Each (λ n t u. u ≡ bl
       (out n ∷ ns, z, opt-is (move q u (out n)) none (λ y. moves q y ns) (of-out q u n v x) ∙ en, l)
 
   -- at once: a step of the program with fences is a step of the program, or a fence
-  fenced-once : (s u v : St) (n : ℕ) → Near-all c p s u → Once q u n v → (ns : List ℕ) × (t : St) × (all-at-once p s ns ≡ some t) × Near-all c p t v
+  fenced-once : (s u v : St) (n : ℕ) → Near-all c p s u → Once q u n v → Plain-near c p s v
   fenced-once s u v n h x = elim (fenced-next s u (x .mid) n h (x .first)) [ inl st ↦ a-fence (st .0) (st .1) (x .then) | inr y ↦ a-step y (x .then) ]
     where
-      a-fence : x .first .i ≡ fence → Near-all c p s (x .mid) → ((is-store (x .first .i) ≡ true) × Out (x .mid) n v) ⊎ ((is-store (x .first .i) ≡ false) × (v ≡ x .mid)) → (ns : List ℕ) × (t : St) × (all-at-once p s ns ≡ some t) × Near-all c p t v
+      a-fence : x .first .i ≡ fence → Near-all c p s (x .mid) → Ends (x .first .i) (x .mid) n v → Plain-near c p s v
       a-fence f k (inl st) = absurd (false-true (sym (ap is-store f) ∙ st .0))
       a-fence f k (inr st) = ([], s, refl, subst (Near-all c p s) (sym (st .1)) k)
 
-      a-step : Same c p q s u (x .mid) n (x .first) → ((is-store (x .first .i) ≡ true) × Out (x .mid) n v) ⊎ ((is-store (x .first .i) ≡ false) × (v ≡ x .mid)) → (ns : List ℕ) × (t : St) × (all-at-once p s ns ≡ some t) × Near-all c p t v
+      a-step : Same c p q s u (x .mid) n (x .first) → Ends (x .first .i) (x .mid) n v → Plain-near c p s v
       a-step y (inl st) =
           let (t, o, k) = fenced-out (y .to) (x .mid) v n (y .near) (st .1) in
           (n ∷ [], t, opt-is (at-once p s n) none _ (of-once p s n t (record { mid = y .to; first = y .step; then = inl (ap is-store (y .same) ∙ st .0, o) })), k)
       a-step y (inr st) =
           (n ∷ [], y .to, opt-is (at-once p s n) none _ (of-once p s n (y .to) (record { mid = y .to; first = y .step; then = inr (ap is-store (y .same) ∙ st .0, refl) })), subst (Near-all c p (y .to)) (sym (st .1)) (y .near))
 
-  fenced-at-once : (s u v : St) (ms : List ℕ) → Near-all c p s u → all-at-once q u ms ≡ some v → (ns : List ℕ) × (t : St) × (all-at-once p s ns ≡ some t) × Near-all c p t v
+  fenced-at-once : (s u v : St) (ms : List ℕ) → Near-all c p s u → all-at-once q u ms ≡ some v → Plain-near c p s v
   fenced-at-once s u v [] h e = ([], s, refl, subst (Near-all c p s) (some-is e) h)
   fenced-at-once s u v (n ∷ ms) h e =
       let (w, ew, e1) = opt-some (at-once q u n) _ e in
@@ -331,20 +341,20 @@ module _ (c : ℕ → ℕ → ℕ) (p q : Prog) (made : Each (λ n t u. u ≡ bl
       (ns ++ ks, z, all-then p s t z ns ks en ez, l)
 
   -- a step of the program is the fences before it and then that step; at once nothing ever waits
-  plain-once : (s t u : St) (n : ℕ) → Near-all c p s u → Quiet s → Once p s n t → (ns : List ℕ) × (v : St) × (all-at-once q u ns ≡ some v) × Near-all c p t v
+  plain-once : (s t u : St) (n : ℕ) → Near-all c p s u → Quiet s → Once p s n t → Fenced-near c p q t u
   plain-once s t u n h quiet x = last (guarded-next s (x .mid) u n h (x .first) (λ z. quiet n (x .first .was) (x .first .stands))) (x .then)
     where
-      ends : (y : After c p q s (x .mid) u n (x .first)) (v : St) → at-once q (y .mid) n ≡ some v → Near-all c p t v → (ns : List ℕ) × (v : St) × (all-at-once q u ns ≡ some v) × Near-all c p t v
+      ends : (y : After c p q s (x .mid) u n (x .first)) (v : St) → at-once q (y .mid) n ≡ some v → Near-all c p t v → Fenced-near c p q t u
       ends y v e k = (y .ns ++ (n ∷ []), v, all-then q u (y .mid) v (y .ns) (n ∷ []) (y .run) (opt-is (at-once q (y .mid) n) none _ e), k)
 
-      last : (y : After c p q s (x .mid) u n (x .first)) → ((is-store (x .first .i) ≡ true) × Out (x .mid) n t) ⊎ ((is-store (x .first .i) ≡ false) × (t ≡ x .mid)) → (ns : List ℕ) × (v : St) × (all-at-once q u ns ≡ some v) × Near-all c p t v
+      last : (y : After c p q s (x .mid) u n (x .first)) → Ends (x .first .i) (x .mid) n t → Fenced-near c p q t u
       last y (inl st) =
           let (v, o, k) = guarded-out (x .mid) t (y .to) n (y .near) (st .1) in
           ends y v (of-once q (y .mid) n v (record { mid = y .to; first = y .step; then = inl (ap is-store (y .same) ∙ st .0, o) })) k
       last y (inr st) =
           ends y (y .to) (of-once q (y .mid) n (y .to) (record { mid = y .to; first = y .step; then = inr (ap is-store (y .same) ∙ st .0, refl) })) (subst (λ (z : St). Near-all c p z (y .to)) (sym (st .1)) (y .near))
 
-  plain-at-once : (s t u : St) (ms : List ℕ) → Near-all c p s u → Quiet s → all-at-once p s ms ≡ some t → (ns : List ℕ) × (v : St) × (all-at-once q u ns ≡ some v) × Near-all c p t v
+  plain-at-once : (s t u : St) (ms : List ℕ) → Near-all c p s u → Quiet s → all-at-once p s ms ≡ some t → Fenced-near c p q t u
   plain-at-once s t u [] h quiet e = ([], u, refl, subst (λ (z : St). Near-all c p z u) (some-is e) h)
   plain-at-once s t u (n ∷ ms) h quiet e =
       let (w, ew, e1) = opt-some (at-once p s n) _ e in

@@ -1,15 +1,16 @@
 -- A run has at most twice as many moves as the program has instructions: each instruction not yet done counts two and
 -- each store that waits counts one, and every move lowers the sum.
-use mathlib.Core.Path.{_≡_, refl, ap, subst}
+use mathlib.Core.Path.{_≡_, refl, sym, ap, _∙_, subst}
+use mathlib.Core.Logic.{inl, inr}
 use mathlib.Core.List.{List, [], _∷_}
 use mathlib.Core.Option.{Option, some, none}
 use Prim.Native.Nat.{ℕ, zero, suc, _+_, _*_, _-_, _≤_, _<_}
 use native.Mathlib.Omega.{arith}
 use lib.ListN.{length, length-append}
-use Rattle.model.specs.Code.{nth, put, I, sets, adds, loads, stores, fence, size, Thread, Prog}
-use Rattle.model.specs.Machine.{Wait, At, St, Move, next, out, move, moves, starts, begin, does, empty}
+use Rattle.model.specs.Code.{nth, put, I, size, Thread, Prog}
+use Rattle.model.specs.Machine.{Wait, At, St, Move, next, out, move, moves, starts, begin, does}
 use Rattle.model.specs.Theorems.{Run-length}
-use Rattle.model.proofs.Tools.{opt-some, some-is, none-some, nth-below, next-of, out-of, rest-of, pick-some}
+use Rattle.model.proofs.Tools.{opt-some, some-is, none-some, nth-below, store-or, does-pc, does-waits, next-of, out-of, rest-of}
 
 -- what a thread can still do at most; a thread with no code can only let its stores out
 abbrev cost : Option Thread → At → ℕ
@@ -29,11 +30,9 @@ left-put (t ∷ ts) (x ∷ as₁) zero a b e h = let q : cost (some t) x ≡ cos
 left-put (t ∷ ts) (x ∷ as₁) (suc n) a b e h = let k = left-put ts as₁ n a b e h in omega arith
 
 does-cost : (m : List ℕ) (c : Thread) (a b : At) (i : I) → a .pc < length c → does m a i ≡ some b → cost (some c) b < cost (some c) a
-does-cost m c a b (sets r n) h e = subst (λ (z : At). cost (some c) z < cost (some c) a) (some-is e) (omega arith)
-does-cost m c a b (adds r x y) h e = subst (λ (z : At). cost (some c) z < cost (some c) a) (some-is e) (omega arith)
-does-cost m c a b (loads r x) h e = subst (λ (z : At). cost (some c) z < cost (some c) a) (some-is e) (omega arith)
-does-cost m c a b (stores x r) h e = subst (λ (z : At). cost (some c) z < cost (some c) a) (some-is e) (simp length-append (omega arith))
-does-cost m c a b fence h e = let (q, f) = pick-some (empty (a .waits)) _ e in subst (λ (z : At). cost (some c) z < cost (some c) a) (some-is f) (omega arith)
+does-cost m c a b i h e =
+    let pc = does-pc m a b i e in
+    elim (store-or i) [ inl st ↦ (let row : length (b .waits) ≡ length (a .waits) + 1 = ap (λ (z : At). length (z .waits)) (sym (some-is (subst (λ (z : I). does m a z ≡ some b) (st .2) e))) ∙ length-append (a .waits) _ in omega arith) | inr q ↦ (let row = ap length (does-waits m a b i q e) in omega arith) ]
 
 out-cost : (o : Option Thread) (a : At) (w : Wait) (ws : List Wait) → a .waits ≡ w ∷ ws → cost o (rest-of a ws) < cost o a
 out-cost none a w ws e = let q : length (a .waits) ≡ suc (length ws) = ap length e in omega arith

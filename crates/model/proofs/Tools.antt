@@ -305,11 +305,15 @@ pub of-out : (p : Prog) (s : St) (n : ℕ) (t : St) → Out s n t → move p s (
 of-out p s n t x =
     opt-is (nth (s .threads) n) none _ (x .stands) ∙ (ap (flushed s n (x .was)) (x .line) ∙ ap some (sym (x .gives)))
 
+-- after the instruction i the machine at once goes on from m to t: a store goes out, anything else is all
+abbrev pub Ends : I → St → ℕ → St → Type 0
+Ends i m n t = ((is-store i ≡ true) × Out m n t) ⊎ ((is-store i ≡ false) × (t ≡ m))
+
 -- thread n did its next instruction, and if that was a store it went to memory
 pub record Once (p : Prog) (s : St) (n : ℕ) (t : St) : Type 0 where
   pub mid : St
   pub first : Next p s n mid
-  pub then : ((is-store (first .i) ≡ true) × Out mid n t) ⊎ ((is-store (first .i) ≡ false) × (t ≡ mid))
+  pub then : Ends (first .i) mid n t
 
 pub once-of : (p : Prog) (s : St) (n : ℕ) (t : St) → at-once p s n ≡ some t → Once p s n t
 once-of p s n t e =
@@ -321,7 +325,7 @@ once-of p s n t e =
     let same-i : x .i ≡ i = some-is (sym (instr-is p n (x .was) (x .of) (x .at)) ∙ (ap (instr p n) same ∙ ei)) in
     record { mid = m; first = x; then = go (x .i) m (is-store (x .i)) refl (ap (λ (z : I). pick (is-store z) (move p m (out n)) (some m)) same-i ∙ e3) }
   where
-    go : (i : I) (m : St) (b : Bool) → is-store i ≡ b → pick (is-store i) (move p m (out n)) (some m) ≡ some t → ((is-store i ≡ true) × Out m n t) ⊎ ((is-store i ≡ false) × (t ≡ m))
+    go : (i : I) (m : St) (b : Bool) → is-store i ≡ b → pick (is-store i) (move p m (out n)) (some m) ≡ some t → Ends i m n t
     go i m true q f = inl (q, out-of p m n t (sym (ap (λ (z : Bool). pick z (move p m (out n)) (some m)) q) ∙ f))
     go i m false q f = inr (q, sym (some-is (sym (ap (λ (z : Bool). pick z (move p m (out n)) (some m)) q) ∙ f)))
 
@@ -330,7 +334,7 @@ of-once p s n t x =
     let f = x .first in
     opt-is (nth (s .threads) n) none _ (f .stands) ∙ (opt-is (instr p n (f .was)) none _ (instr-is p n (f .was) (f .of) (f .at)) ∙ (opt-is (move p s (next n)) none _ (of-next p s n (x .mid) f) ∙ go (x .then)))
   where
-    go : ((is-store (x .first .i) ≡ true) × Out (x .mid) n t) ⊎ ((is-store (x .first .i) ≡ false) × (t ≡ x .mid)) → pick (is-store (x .first .i)) (move p (x .mid) (out n)) (some (x .mid)) ≡ some t
+    go : Ends (x .first .i) (x .mid) n t → pick (is-store (x .first .i)) (move p (x .mid) (out n)) (some (x .mid)) ≡ some t
     go (inl (q, o)) = ap (λ (z : Bool). pick z (move p (x .mid) (out n)) (some (x .mid))) q ∙ of-out p (x .mid) n t o
     go (inr (q, e)) = ap (λ (z : Bool). pick z (move p (x .mid) (out n)) (some (x .mid))) q ∙ ap some (sym e)
 
