@@ -11,6 +11,7 @@ use Rattle.lent.specs.Nibbles.{nibbles, number}
 
 -- the field a of n as a quotient
 pub field : (a k n : ℕ) → a < k → getD (nibbles k n) a 0 ≡ n / 2 ^ (4 * a) % 16
+unfolding nibbles
 field a zero n h = absurd (omega arith)
 field zero (suc k) n h = omega arith
 field (suc a) (suc k) n h =
@@ -23,6 +24,7 @@ poked zero n v = n / 16 * 16 + v
 poked (suc a) n v = poked a (n / 16) v * 16 + n % 16
 
 pub nibbles-poked : (a k n v : ℕ) → v < 16 → a < k → nibbles k (poked a n v) ≡ set (nibbles k n) a v
+unfolding nibbles
 nibbles-poked a zero n v hv h = absurd (omega arith)
 nibbles-poked zero (suc k) n v hv h =
     let e : (n / 16 * 16 + v) % 16 ≡ v = omega arith in
@@ -82,17 +84,28 @@ read-field a k n h = and-mask (n / 2 ^ (4 * a)) 4 ∙ sym (field a k n h)
 
 -- each field is below 16
 pub nibble-small : (a k n : ℕ) → getD (nibbles k n) a 0 < 16
+unfolding nibbles
 nibble-small a zero n = omega arith
 nibble-small zero (suc k) n = omega arith
 nibble-small (suc a) (suc k) n = nibble-small a k (n / 16)
 pub length-nibbles : (k n : ℕ) → length (nibbles k n) ≡ k
+unfolding nibbles
 length-nibbles zero n = refl
 length-nibbles (suc k) n = ap suc (length-nibbles k (n / 16))
 
 -- there and back
 pub number-nibbles : (k n : ℕ) → n < 16 ^ k → number (nibbles k n) ≡ n
+unfolding nibbles number
 number-nibbles zero n h = omega arith
 number-nibbles (suc k) n h =
     let e : 16 ^ suc k ≡ 16 ^ k * 16 = pow-suc 16 k in
     let i = number-nibbles k (n / 16) (omega arith) in
+    omega arith
+-- a field written leaves the number below what it was below
+pub poked-below : (a k n v : ℕ) → v < 16 → a < k → n < 16 ^ k → poked a n v < 16 ^ k
+poked-below a zero n v hv h b = absurd (omega arith)
+poked-below zero (suc k) n v hv h b = let e = pow-suc 16 k in omega arith
+poked-below (suc a) (suc k) n v hv h b =
+    let e = pow-suc 16 k in
+    let i = poked-below a k (n / 16) v hv (omega arith) (omega arith) in
     omega arith

@@ -1,1 +1,3 @@
 -- Lemmas on rows, states and moves.
+pub mod RowLaws
+pub mod Did
