@@ -1,2 +1,4 @@
 -- What is proved of the definitions.
 pub mod Cases
+pub mod Tools
+pub mod Orders

@@ -1,0 +1,5 @@
+-- The machine in which stores wait gives what orders give, and nothing else.
+pub mod Events
+pub mod Going
+pub mod Reading
+pub mod Ordered
