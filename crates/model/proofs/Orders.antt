@@ -3,3 +3,4 @@ pub mod Events
 pub mod Going
 pub mod Reading
 pub mod Ordered
+pub mod Rows
