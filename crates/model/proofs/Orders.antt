@@ -4,3 +4,5 @@ pub mod Going
 pub mod Reading
 pub mod Ordered
 pub mod Rows
+pub mod States
+pub mod FromRuns

@@ -61,6 +61,9 @@ drop-nth (y ∷ xs) (suc k) q = drop-nth xs k q
 waits-none : (ws : List Ev) → waits-of ws ≡ [] → ws ≡ []
 waits-none [] q = refl
 waits-none (e ∷ ws) q = absurd (nil-cons (sym q))
+waits-cons : (es : List Ev) (w : Wait) (ws : List Wait) → waits-of es ≡ w ∷ ws → (e : Ev) × (us : List Ev) × (es ≡ e ∷ us) × (w ≡ record { place = e .place; val = e .val }) × (ws ≡ waits-of us)
+waits-cons [] w ws q = absurd (nil-cons q)
+waits-cons (e ∷ es) w ws q = (e, es, refl, cc, cc)
 waits-add : (ws : List Ev) (e : Ev) → waits-of (ws ++ (e ∷ [])) ≡ waits-of ws ++ (record { place = e .place; val = e .val } ∷ [])
 waits-add [] e = refl
 waits-add (w ∷ ws) e = ap {B = List Wait} (λ z. record { place = w .place; val = w .val } ∷ z) (waits-add ws e)
@@ -85,10 +88,11 @@ module _ (n : ℕ) (t : Thread) (a : At) (ws : List Ev) (row : Row t a ws) where
         | inr j ↦ elim (within j) [
             inl z ↦ let index = ap (λ (y : Ev). y .index) z in (ap (λ (y : Ev). y .write) z, omega arith, λ (k, l1, l2, g). omega arith)
           | inr h ↦ absurd (within h) ] ] }
+  pub row-none : a .waits ≡ [] → ws ≡ []
+  row-none z = waits-none ws (sym (row .line) ∙ z)
   no-row : nth t (a .pc) ≡ some fence → a .waits ≡ [] → Row t (done a (a .regs) (a .waits)) ws
   no-row q z =
-    let none-held = waits-none ws (sym (row .line) ∙ z) in
-    record { inside = nth-below t (a .pc) q; line = row .line; held = λ e i. absurd (within (subst (λ (y : List Ev). In e y) none-held i)) }
+    record { inside = nth-below t (a .pc) q; line = row .line; held = λ e i. absurd (within (subst (λ (y : List Ev). In e y) (row-none z) i)) }
   pub row-step : (m : List ℕ) (i : I) (b : At) → nth t (a .pc) ≡ some i → does m a i ≡ some b → Row t b (row-after n a i ws)
   row-step m (sets r c) b q e = subst (λ (z : At). Row t z ws) (some-is e) (same-row (put (a .regs) r c) q (λ z. let y : _≡_ {A = ℕ} 0 1 = cc in omega arith))
   row-step m (adds r x y) b q e = subst (λ (z : At). Row t z ws) (some-is e) (same-row _ q (λ z. let y : _≡_ {A = ℕ} 0 1 = cc in omega arith))
@@ -97,7 +101,9 @@ module _ (n : ℕ) (t : Thread) (a : At) (ws : List Ev) (row : Row t a ws) where
   row-step m fence b q e =
     let (z, y) = pick-some (empty (a .waits)) (some (done a (a .regs) (a .waits))) e in
     subst (λ (z : At). Row t z ws) (some-is y) (no-row q (empty-is (a .waits) z))
-  -- the oldest store gone
+  -- the oldest store, and the row with it gone
+  pub row-cons : (w : Wait) (vs : List Wait) → a .waits ≡ w ∷ vs → (e : Ev) × (us : List Ev) × (ws ≡ e ∷ us) × (w ≡ record { place = e .place; val = e .val }) × (vs ≡ waits-of us)
+  row-cons w vs q = waits-cons ws w vs (sym (row .line) ∙ q)
   pub row-less : (e : Ev) (us : List Ev) → ws ≡ e ∷ us → Row t (record { pc = a .pc; regs = a .regs; waits = waits-of us }) us
   row-less e us q = record {
       inside = row .inside;
@@ -112,7 +118,7 @@ module _ (n : ℕ) (t : Thread) (a : At) where
   rest-is : (i : I) (vs : List ℕ) → nth t (a .pc) ≡ some i → rest n t a vs ≡ from-i i vs
   rest-is i vs q = ap (λ (z : Thread). alone n (a .pc) z (a .regs) vs) (drop-nth t (a .pc) q)
   -- no load: the registers at the end are the same, and the events, with the row before them
-  abbrev Quiet : I → List Ev → List ℕ → At → Alone → Type 0
+  abbrev pub Quiet : I → List Ev → List ℕ → At → Alone → Type 0
   Quiet i ws vs b c = (ws ++ c .evs ≡ row-after n a i ws ++ (rest n t b vs) .evs) × (c .regs ≡ (rest n t b vs) .regs)
   quiet-i : (m : List ℕ) (i : I) (b : At) (ws : List Ev) (vs : List ℕ) → is-load i ≡ false → does m a i ≡ some b → Quiet i ws vs b (from-i i vs)
   quiet-i m (sets r c) b ws vs l e = subst (λ (z : At). Quiet (sets r c) ws vs z (from-i (sets r c) vs)) (some-is e) (refl, refl)
