@@ -5,4 +5,5 @@ pub mod Reading
 pub mod Ordered
 pub mod Rows
 pub mod States
+pub mod Taking
 pub mod FromRuns

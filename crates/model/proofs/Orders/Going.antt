@@ -33,9 +33,11 @@ pub record Took (p : Prog) (A : ℕ → List Ev) (e : Ev) (B : ℕ → List Ev) 
   pub others : (k : ℕ) → (n ≡ k → ⊥) → B k ≡ A k
   pub over : (a : Ev) → In a older → Cross t a e
 -- events as stores that wait
+abbrev pub wait : Ev → Wait
+wait e = record { place = e .place; val = e .val }
 abbrev pub waits-of : List Ev → List Wait
 waits-of [] = []
-waits-of (e ∷ es) = record { place = e .place; val = e .val } ∷ waits-of es
+waits-of (e ∷ es) = wait e ∷ waits-of es
 -- e has what a thread reads whose events ws wait
 abbrev pub Gives : List ℕ → List Ev → Ev → Type 0
 Gives m ws e = e .val ≡ newest (waits-of ws) (e .place) (at-mem m (e .place))

@@ -16,7 +16,7 @@ use Rattle.model.specs.Machine.{Wait, At, reg, at-mem, newest, done, empty, do
 use Rattle.model.specs.Orders.{Ev, Alone, at, with-ev, reads-one, alone, Fenced, In, first, more, Before}
 use Rattle.model.proofs.Tools.{none-some, some-is, false-true, pick-some, same-or, nth-below, empty-is, nil-cons}
 use Rattle.model.proofs.Orders.Events.{within, ahead, in-or}
-use Rattle.model.proofs.Orders.Going.{waits-of}
+use Rattle.model.proofs.Orders.Going.{wait, waits-of}
 
 -- the rest of thread n, with the code t, that stands as a says and will read vs
 abbrev pub rest : ℕ → Thread → At → List ℕ → Alone
@@ -61,12 +61,12 @@ drop-nth (y ∷ xs) (suc k) q = drop-nth xs k q
 waits-none : (ws : List Ev) → waits-of ws ≡ [] → ws ≡ []
 waits-none [] q = refl
 waits-none (e ∷ ws) q = absurd (nil-cons (sym q))
-waits-cons : (es : List Ev) (w : Wait) (ws : List Wait) → waits-of es ≡ w ∷ ws → (e : Ev) × (us : List Ev) × (es ≡ e ∷ us) × (w ≡ record { place = e .place; val = e .val }) × (ws ≡ waits-of us)
+waits-cons : (es : List Ev) (w : Wait) (ws : List Wait) → waits-of es ≡ w ∷ ws → (e : Ev) × (us : List Ev) × (es ≡ e ∷ us) × (w ≡ wait e) × (ws ≡ waits-of us)
 waits-cons [] w ws q = absurd (nil-cons q)
 waits-cons (e ∷ es) w ws q = (e, es, refl, cc, cc)
-waits-add : (ws : List Ev) (e : Ev) → waits-of (ws ++ (e ∷ [])) ≡ waits-of ws ++ (record { place = e .place; val = e .val } ∷ [])
+waits-add : (ws : List Ev) (e : Ev) → waits-of (ws ++ (e ∷ [])) ≡ waits-of ws ++ (wait e ∷ [])
 waits-add [] e = refl
-waits-add (w ∷ ws) e = ap {B = List Wait} (λ z. record { place = w .place; val = w .val } ∷ z) (waits-add ws e)
+waits-add (w ∷ ws) e = ap {B = List Wait} (λ z. wait w ∷ z) (waits-add ws e)
 
 -- an instruction done: the row of the thread after it
 module _ (n : ℕ) (t : Thread) (a : At) (ws : List Ev) (row : Row t a ws) where
@@ -102,7 +102,7 @@ module _ (n : ℕ) (t : Thread) (a : At) (ws : List Ev) (row : Row t a ws) where
     let (z, y) = pick-some (empty (a .waits)) (some (done a (a .regs) (a .waits))) e in
     subst (λ (z : At). Row t z ws) (some-is y) (no-row q (empty-is (a .waits) z))
   -- the oldest store, and the row with it gone
-  pub row-cons : (w : Wait) (vs : List Wait) → a .waits ≡ w ∷ vs → (e : Ev) × (us : List Ev) × (ws ≡ e ∷ us) × (w ≡ record { place = e .place; val = e .val }) × (vs ≡ waits-of us)
+  pub row-cons : (w : Wait) (vs : List Wait) → a .waits ≡ w ∷ vs → (e : Ev) × (us : List Ev) × (ws ≡ e ∷ us) × (w ≡ wait e) × (vs ≡ waits-of us)
   row-cons w vs q = waits-cons ws w vs (sym (row .line) ∙ q)
   pub row-less : (e : Ev) (us : List Ev) → ws ≡ e ∷ us → Row t (record { pc = a .pc; regs = a .regs; waits = waits-of us }) us
   row-less e us q = record {
