@@ -7,3 +7,4 @@ pub mod Rows
 pub mod States
 pub mod Taking
 pub mod FromRuns
+pub mod Settling
