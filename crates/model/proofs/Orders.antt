@@ -8,3 +8,4 @@ pub mod States
 pub mod Taking
 pub mod FromRuns
 pub mod Settling
+pub mod ToRuns

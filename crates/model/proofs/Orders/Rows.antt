@@ -139,6 +139,9 @@ module _ (n : ℕ) (t : Thread) (a : At) where
       go : (us : List ℕ) → alone n (a .pc) (loads r x ∷ drop (suc (a .pc)) t) (a .regs) us ≡ with-ev (read-ev n a x (head-or us)) (rest n t (done a (put (a .regs) r (head-or us)) (a .waits)) (tail-of us))
       go [] = refl
       go (u ∷ us) = refl
+  -- a fence: what is to come after it
+  pub fence-rest : (vs : List ℕ) → nth t (a .pc) ≡ some fence → rest n t a vs ≡ rest n t (done a (a .regs) (a .waits)) vs
+  fence-rest vs q = rest-is fence vs q
   -- at the end nothing is to come
   pub end-rest : (vs : List ℕ) → a .pc ≡ length t → rest n t a vs ≡ record { regs = a .regs; evs = []; left = vs }
   end-rest vs q = ap (λ (z : Thread). alone n (a .pc) z (a .regs) vs) (ap (λ (z : ℕ). drop z t) q ∙ drop-length t)

@@ -11,11 +11,11 @@ use native.Mathlib.Omega.{arith}
 use lib.ListN.{length}
 use Rattle.model.specs.Code.{opt, nth, put, I, sets, adds, loads, stores, fence, Thread, Prog}
 use Rattle.model.specs.Machine.{Wait, At, St, Move, next, out, does, done, empty, with-thread, move, moves, all-done}
-use Rattle.model.specs.Orders.{Ev, Alone}
+use Rattle.model.specs.Orders.{Ev, Alone, writes-in}
 use Rattle.model.proofs.Tools.{some-is, none-some, nil-cons, false-true, same-or, opt-is, Next, of-next, moves-then, at-done, past-nth, nth-past, nth-below, below-nth, nth-put-same}
 use Rattle.model.proofs.Orders.Going.{waits-of, upd}
 use Rattle.model.proofs.Orders.Rows.{row-after, is-load, Row, head-or, load-rest, end-rest}
-use Rattle.model.proofs.Orders.States.{code, start, stand, stand-is, stand-there, future, events, Pending, step-pending, step-events, step-regs}
+use Rattle.model.proofs.Orders.States.{code, code-is, stand, stand-is, stand-there, future, events, Pending, step-pending, step-events, step-regs}
 use Rattle.model.proofs.Orders.Taking.{row-here, code-here}
 use Rattle.model.proofs.Orders.FromRuns.{Same, same-from}
 
@@ -74,3 +74,68 @@ module _ (p : Prog) (vs : ℕ → List ℕ) (n : ℕ) where
       inl r ↦ stays s ws pend (subst (λ (z : At). Rests (code p n) z (ws n)) (sym (stand-is (s .threads) n stands)) r)
     | inr (i, b, q, e, c, h) ↦ one-more s ws pend a b i stands q e c
         (settle j (with-thread s n b) (upd ws n (row-after n a i (ws n))) (step-pending p (s .mem) (s .threads) ws pend n a b i stands q e) b (nth-put-same (s .threads) n b stands) (omega arith)) ]
+
+-- a run from s to the end that gives what the order es gives, if the threads read vs
+pub record Runs (p : Prog) (s : St) (vs : ℕ → List ℕ) (es : List Ev) : Type 0 where
+  pub ms : List Move
+  pub to : St
+  pub run : moves p s ms ≡ some to
+  pub ended : all-done p (to .threads) ≡ true
+  pub same : Same p s to vs es
+pub settled-runs : (p : Prog) (vs : ℕ → List ℕ) (s : St) (ws : ℕ → List Ev) (n : ℕ) (es : List Ev) (z : Settled p vs s ws n) → Runs p (z .to) vs es → Runs p s vs es
+settled-runs p vs s ws n es z r = record {
+    ms = z .ms ++ r .ms;
+    to = r .to;
+    run = moves-then p s (z .to) (r .to) (z .ms) (r .ms) (z .run) (r .run);
+    ended = r .ended;
+    same = same-from p s (z .to) (r .to) vs vs es es (z .regs) (ap (writes-in es) (z .mem)) (r .same) }
+
+-- a thread at its end with an empty row
+abbrev Stopped : Prog → List At → ℕ → Type 0
+Stopped p as₁ n = (stand as₁ n .pc ≡ length (code p n)) × (stand as₁ n .waits ≡ [])
+absent : (p : Prog) (as₁ : List At) (ws : ℕ → List Ev) → Pending p as₁ ws → (n : ℕ) → length p ≤ n → Stopped p as₁ n
+absent p as₁ ws pend n l =
+  let many = pend .many in
+  rw (nth-past p n l, nth-past as₁ n (omega arith)) (refl, refl)
+-- a join that is empty
+both-nil : {A : Type 0} (xs ys : List A) → xs ++ ys ≡ [] → (xs ≡ []) × (ys ≡ [])
+both-nil [] ys q = (refl, q)
+both-nil (x ∷ xs) ys q = absurd (nil-cons (sym q))
+-- a thread that rests with nothing to come has stopped
+stopped : (p : Prog) (as₁ : List At) (ws : ℕ → List Ev) (vs : ℕ → List ℕ) → Pending p as₁ ws → (n : ℕ) → events p as₁ ws vs n ≡ [] → Rests (code p n) (stand as₁ n) (ws n) → Stopped p as₁ n
+stopped p as₁ ws vs pend n h r =
+  let (no-row, no-rest) = both-nil (ws n) _ h in
+  elim r [
+    inl q ↦ (q, pend .rows n .line ∙ ap waits-of no-row)
+  | inr (inl (x, y, q)) ↦ absurd (nil-cons (sym no-rest ∙ ap (λ (z : Alone). z .evs) (load-rest n (code p n) (stand as₁ n) x y (vs n) q)))
+  | inr (inr (q, (w, us, z))) ↦ absurd (nil-cons (sym no-row ∙ z)) ]
+all-stopped : (p : Prog) (s : St) (ws : ℕ → List Ev) (vs : ℕ → List ℕ) → Pending p (s .threads) ws → ((n : ℕ) → Stopped p (s .threads) n) → Runs p s vs []
+all-stopped p s ws vs pend f = record {
+    ms = [];
+    to = s;
+    run = refl;
+    ended = at-done p (s .threads) (λ n c q.
+      let below = nth-below p n q in
+      let many = pend .many in
+      let (a, h) = below-nth (s .threads) n (omega arith) in
+      let (x, y) = f n in
+      let z = stand-is (s .threads) n h in
+      (a, h, (ap (λ (b : At). b .pc) (sym z) ∙ (x ∙ ap length (code-is p n q)), ap (λ (b : At). b .waits) (sym z) ∙ y)));
+    same = record {
+      regs = λ n. sym (ap (λ (z : Alone). z .regs) (end-rest n (code p n) (stand (s .threads) n) (vs n) (f n .0)));
+      mem = refl;
+      many = pend .many } }
+-- thread after thread, from the last to the first: those from j on have stopped
+finish : (p : Prog) (vs : ℕ → List ℕ) (j : ℕ) (s : St) (ws : ℕ → List Ev) → Pending p (s .threads) ws → ((n : ℕ) → events p (s .threads) ws vs n ≡ []) → j ≤ length p → ((n : ℕ) → j ≤ n → Stopped p (s .threads) n) → Runs p s vs []
+finish p vs zero s ws pend h l f = all-stopped p s ws vs pend (λ n. f n (omega arith))
+finish p vs (suc j) s ws pend h l f =
+  let many = pend .many in
+  let (a, stands) = below-nth (s .threads) j (omega arith) in
+  let z = settle p vs j (length (code p j)) s ws pend a stands (omega arith) in
+  let nothing : (n : ℕ) → events p (z .to .threads) (z .rows) vs n ≡ [] = λ n. z .evs n ∙ h n in
+  let here = stopped p (z .to .threads) (z .rows) vs (z .pend) j (nothing j) (z .rests) in
+  settled-runs p vs s ws j [] z (finish p vs j (z .to) (z .rows) (z .pend) nothing (omega arith) (λ n k. elim (same-or j n) [
+      inl q ↦ subst (λ (i : ℕ). Stopped p (z .to .threads) i) q here
+    | inr d ↦ subst (λ (b : At). (b .pc ≡ length (code p n)) × (b .waits ≡ [])) (sym (z .others n d)) (f n (omega arith)) ]))
+pub run-to-end : (p : Prog) (vs : ℕ → List ℕ) (s : St) (ws : ℕ → List Ev) → Pending p (s .threads) ws → ((n : ℕ) → events p (s .threads) ws vs n ≡ []) → Runs p s vs []
+run-to-end p vs s ws pend h = finish p vs (length p) s ws pend h (omega arith) (absent p (s .threads) ws pend)
