@@ -149,7 +149,7 @@ module _ (n : ℕ) (t : Thread) (a : At) where
 -- the events of a thread: of thread n, from k on, in the order of their instructions, and with places below 8
 abbrev pub Fits : ℕ → ℕ → Thread → Ev → Type 0
 Fits n k t e = (e .thread ≡ n) × (k ≤ e .index) × (T (ok-t t) → e .place < 8)
-T-and : (a b : Bool) → T (a && b) → T a × T b
+pub T-and : (a b : Bool) → T (a && b) → T a × T b
 T-and true true h = (tt, tt)
 T-and true false h = absurd h
 T-and false true h = absurd h
