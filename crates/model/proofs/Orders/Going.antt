@@ -7,7 +7,7 @@ use mathlib.Core.Path.{_≡_, refl, sym, _∙_, ap, subst}
 use mathlib.Core.Logic.{_⊎_, inl, inr}
 use mathlib.Core.Bool.{Bool, true, false}
 use mathlib.Core.List.{List, [], _∷_, _++_}
-use mathlib.Core.Option.{Option, some, none}
+use mathlib.Core.Option.{some}
 use Prim.Native.Nat.{ℕ, _<_}
 use native.Mathlib.Omega.{arith}
 use lib.ListN.{length}
@@ -21,6 +21,7 @@ use Rattle.model.proofs.Orders.Events.{in-right, in-or, before-this, this-befo
 -- a may be passed by b: a is a write, b a read, and no fence stands between
 abbrev pub Cross : Thread → Ev → Ev → Type 0
 Cross t a b = (a .write ≡ true) × (b .write ≡ false) × (Fenced t (a .index) (b .index) → ⊥)
+
 -- the event e is taken out of the lists A, and leaves B
 pub record Took (p : Prog) (A : ℕ → List Ev) (e : Ev) (B : ℕ → List Ev) : Type 0 where
   pub n : ℕ
@@ -32,18 +33,23 @@ pub record Took (p : Prog) (A : ℕ → List Ev) (e : Ev) (B : ℕ → List Ev) 
   pub is : B n ≡ older ++ newer
   pub others : (k : ℕ) → (n ≡ k → ⊥) → B k ≡ A k
   pub over : (a : Ev) → In a older → Cross t a e
+
 -- events as stores that wait
 abbrev pub wait : Ev → Wait
 wait e = record { place = e .place; val = e .val }
+
 abbrev pub waits-of : List Ev → List Wait
 waits-of [] = []
 waits-of (e ∷ es) = wait e ∷ waits-of es
+
 -- e has what a thread reads whose events ws wait
 abbrev pub Gives : List ℕ → List Ev → Ev → Type 0
 Gives m ws e = e .val ≡ newest (waits-of ws) (e .place) (at-mem m (e .place))
+
 -- memory after the event
 abbrev pub after : List ℕ → Ev → List ℕ
 after m e = pick (e .write) (put m (e .place) (e .val)) m
+
 -- the events of the lists A can be taken in this order, where memory is m
 abbrev pub Goes : Prog → List ℕ → (ℕ → List Ev) → List Ev → Type 0
 Goes p m A [] = (n : ℕ) → A n ≡ []
@@ -52,8 +58,10 @@ Goes p m A (e ∷ es) = (B : ℕ → List Ev) × (st : Took p A e B) × (e .writ
 -- a function that is l at n, and else as it was
 abbrev pub upd : {X : Type 0} → (ℕ → X) → ℕ → X → ℕ → X
 upd A n l k = pick (eqb n k) l (A k)
+
 pub upd-here : {X : Type 0} (A : ℕ → X) (n : ℕ) (l : X) → upd A n l n ≡ l
 upd-here A n l = ap (λ (b : Bool). pick b l (A n)) (eqb-same n)
+
 pub upd-there : {X : Type 0} (A : ℕ → X) (n : ℕ) (l : X) (k : ℕ) → (n ≡ k → ⊥) → upd A n l k ≡ A k
 upd-there A n l k d = ap (λ (b : Bool). pick b l (A k)) (eqb-not n k d)
 
@@ -65,7 +73,7 @@ pub record Well (p : Prog) (m : List ℕ) (A : ℕ → List Ev) : Type 0 where
   pub place : (n : ℕ) (e : Ev) → In e (A n) → e .place < length m
   pub has : (n : ℕ) (e : Ev) → In e (A n) → (t : Thread) × (nth p n ≡ some t)
 
-pub length-after : (m : List ℕ) (e : Ev) → length (after m e) ≡ length m
+length-after : (m : List ℕ) (e : Ev) → length (after m e) ≡ length m
 length-after m e = go (e .write)
   where
     go : (b : Bool) → length (pick b (put m (e .place) (e .val)) m) ≡ length m
@@ -76,42 +84,56 @@ module _ (p : Prog) (A : ℕ → List Ev) (e : Ev) (B : ℕ → List Ev) (st : T
   -- what was taken stood there
   pub took-this : In e (A (st .n))
   took-this = subst (λ (z : List Ev). In e z) (sym (st .was)) (in-right (st .older) first)
+
   -- what is left stood there, in the same order
   pub took-in : (k : ℕ) {x : Ev} → In x (B k) → In x (A k)
   took-in k {x} i = elim (same-or (st .n) k) [
-      inl q ↦ subst (λ (z : ℕ). In x (A z)) q (subst (λ (z : List Ev). In x z) (sym (st .was)) (kept-in e (st .older) (st .newer) (subst (λ (z : List Ev). In x z) (st .is) (subst (λ (z : ℕ). In x (B z)) (sym q) i))))
-    | inr d ↦ subst (λ (z : List Ev). In x z) (st .others k d) i ]
+    | inl q ↦ subst (λ (z : ℕ). In x (A z)) q (subst (λ (z : List Ev). In x z) (sym (st .was)) (kept-in e (st .older) (st .newer) (subst (λ (z : List Ev). In x z) (st .is) (subst (λ (z : ℕ). In x (B z)) (sym q) i))))
+    | inr d ↦ subst (λ (z : List Ev). In x z) (st .others k d) i
+  ]
+
   pub took-before : (k : ℕ) {x y : Ev} → Before x y (B k) → Before x y (A k)
   took-before k {x} {y} i = elim (same-or (st .n) k) [
-      inl q ↦ subst (λ (z : ℕ). Before x y (A z)) q (subst (λ (z : List Ev). Before x y z) (sym (st .was)) (kept-before e (st .older) (st .newer) (subst (λ (z : List Ev). Before x y z) (st .is) (subst (λ (z : ℕ). Before x y (B z)) (sym q) i))))
-    | inr d ↦ subst (λ (z : List Ev). Before x y z) (st .others k d) i ]
+    | inl q ↦ subst (λ (z : ℕ). Before x y (A z)) q (subst (λ (z : List Ev). Before x y z) (sym (st .was)) (kept-before e (st .older) (st .newer) (subst (λ (z : List Ev). Before x y z) (st .is) (subst (λ (z : ℕ). Before x y (B z)) (sym q) i))))
+    | inr d ↦ subst (λ (z : List Ev). Before x y z) (st .others k d) i
+  ]
+
   -- what stood there was taken or is left
   pub took-or : (k : ℕ) {x : Ev} → In x (A k) → (x ≡ e) ⊎ In x (B k)
   took-or k {x} i = elim (same-or (st .n) k) [
-      inl q ↦ elim (left-in e (st .older) (st .newer) (subst (λ (z : List Ev). In x z) (st .was) (subst (λ (z : ℕ). In x (A z)) (sym q) i))) [
-        inl h ↦ inl h
-      | inr h ↦ inr (subst (λ (z : ℕ). In x (B z)) q (subst (λ (z : List Ev). In x z) (sym (st .is)) h)) ]
-    | inr d ↦ inr (subst (λ (z : List Ev). In x z) (sym (st .others k d)) i) ]
+    | inl q ↦ elim (left-in e (st .older) (st .newer) (subst (λ (z : List Ev). In x z) (st .was) (subst (λ (z : ℕ). In x (A z)) (sym q) i))) [
+      | inl h ↦ inl h
+      | inr h ↦ inr (subst (λ (z : ℕ). In x (B z)) q (subst (λ (z : List Ev). In x z) (sym (st .is)) h))
+    ]
+    | inr d ↦ inr (subst (λ (z : List Ev). In x z) (sym (st .others k d)) i)
+  ]
+
   pub took-before-or : (k : ℕ) {x y : Ev} → Before x y (A k) → (((st .n ≡ k) × In x (st .older) × (y ≡ e)) ⊎ ((x ≡ e) × In y (B k))) ⊎ Before x y (B k)
   took-before-or k {x} {y} i = elim (same-or (st .n) k) [
-      inl q ↦ elim (left-before e (st .older) (st .newer) (subst (λ (z : List Ev). Before x y z) (st .was) (subst (λ (z : ℕ). Before x y (A z)) (sym q) i))) [
-        inl (inl (j, h)) ↦ inl (inl (q, j, h))
+    | inl q ↦ elim (left-before e (st .older) (st .newer) (subst (λ (z : List Ev). Before x y z) (st .was) (subst (λ (z : ℕ). Before x y (A z)) (sym q) i))) [
+      | inl (inl (j, h)) ↦ inl (inl (q, j, h))
       | inl (inr (h, j)) ↦ inl (inr (h, subst (λ (z : ℕ). In y (B z)) q (subst (λ (z : List Ev). In y z) (sym (st .is)) (in-right (st .older) j))))
-      | inr j ↦ inr (subst (λ (z : ℕ). Before x y (B z)) q (subst (λ (z : List Ev). Before x y z) (sym (st .is)) j)) ]
-    | inr d ↦ inr (subst (λ (z : List Ev). Before x y z) (sym (st .others k d)) i) ]
+      | inr j ↦ inr (subst (λ (z : ℕ). Before x y (B z)) q (subst (λ (z : List Ev). Before x y z) (sym (st .is)) j))
+    ]
+    | inr d ↦ inr (subst (λ (z : List Ev). Before x y z) (sym (st .others k d)) i)
+  ]
+
   pub took-well : (m : List ℕ) → Well p m A → Well p (after m e) B
   took-well m w = record {
-      thread = λ n x i. w .thread n x (took-in n i);
-      sorted = λ n x y i. w .sorted n x y (took-before n i);
-      place = λ n x i. subst (λ (z : ℕ). x .place < z) (sym (length-after m e)) (w .place n x (took-in n i));
-      has = λ n x i. w .has n x (took-in n i) }
+    thread = λ n x i. w .thread n x (took-in n i);
+    sorted = λ n x y i. w .sorted n x y (took-before n i);
+    place = λ n x i. subst (λ (z : ℕ). x .place < z) (sym (length-after m e)) (w .place n x (took-in n i));
+    has = λ n x i. w .has n x (took-in n i);
+  }
+
   -- no event that is left is the same instruction
   pub took-apart : (m : List ℕ) → Well p m A → (k : ℕ) {x : Ev} → In x (B k) → e .thread ≡ x .thread → e .index ≡ x .index → ⊥
   took-apart m w k {x} i same-t same-i =
-    let tx = w .thread k x (took-in k i) in
-    let te = w .thread (st .n) e took-this in
-    let q : k ≡ st .n = sym tx ∙ (sym same-t ∙ te) in
-    let j = subst (λ (z : List Ev). In x z) (st .is) (subst (λ (z : ℕ). In x (B z)) q i) in
-    elim (in-or (st .older) (st .newer) j) [
-      inl h ↦ let lt = w .sorted (st .n) x e (subst (λ (z : List Ev). Before x e z) (sym (st .was)) (before-this e (st .newer) h)) in omega arith
-    | inr h ↦ let lt = w .sorted (st .n) e x (subst (λ (z : List Ev). Before e x z) (sym (st .was)) (this-before e (st .older) h)) in omega arith ]
+      let tx = w .thread k x (took-in k i) in
+      let te = w .thread (st .n) e took-this in
+      let q : k ≡ st .n = sym tx ∙ (sym same-t ∙ te) in
+      let j = subst (λ (z : List Ev). In x z) (st .is) (subst (λ (z : ℕ). In x (B z)) q i) in
+      elim (in-or (st .older) (st .newer) j) [
+        | inl h ↦ let lt = w .sorted (st .n) x e (subst (λ (z : List Ev). Before x e z) (sym (st .was)) (before-this e (st .newer) h)) in omega arith
+        | inr h ↦ let lt = w .sorted (st .n) e x (subst (λ (z : List Ev). Before e x z) (sym (st .was)) (this-before e (st .older) h)) in omega arith
+      ]
