@@ -22,7 +22,7 @@ use Rattle.model.proofs.Orders.Events.{in-right, in-or, before-this, this-befo
 abbrev pub Cross : Thread → Ev → Ev → Type 0
 Cross t a b = (a .write ≡ true) × (b .write ≡ false) × (Fenced t (a .index) (b .index) → ⊥)
 
--- the event e is taken out of the lists A, and leaves B
+-- the event e is taken out of the lists A, and leaves B: of thread n with the code t, where e passes the older events
 pub record Took (p : Prog) (A : ℕ → List Ev) (e : Ev) (B : ℕ → List Ev) : Type 0 where
   pub n : ℕ
   pub t : Thread

@@ -44,6 +44,7 @@ took-same p A e f B C st su n q k = elim (same-or (st .n) k) [
   | inr d ↦ st .others k d ∙ sym (su .others k (λ z. d (n ∙ z)))
 ]
 
+-- the next event e, and what is known of the rest: that it has a run from wherever e leads (go-on)
 module _ (p : Prog) (es : List Ev) (s : St) (ws : ℕ → List Ev) (vs : ℕ → List ℕ) (pend : Pending p (s .threads) ws) (e : Ev) (B : ℕ → List Ev) (st : Took p (events p (s .threads) ws vs) e B) (gives : e .write ≡ false → Gives (s .mem) (st .older) e) (g : Goes p (after (s .mem) e) B es)
     (go-on : (t : St) (us : ℕ → List Ev) (ys : ℕ → List ℕ) → Pending p (t .threads) us → Goes p (t .mem) (events p (t .threads) us ys) es → Runs p t ys es) (a : At) (stands : nth (s .threads) (st .n) ≡ some a) where
   row : Row (code p (st .n)) a (ws (st .n))
@@ -95,7 +96,7 @@ module _ (p : Prog) (es : List Ev) (s : St) (ws : ℕ → List Ev) (vs : ℕ →
       (go-on t (upd ws n (ws n)) ys (step-pending p (s .mem) (s .threads) ws pend n a b (loads r x) stands q did)
       (subst (λ (l : List ℕ). Goes p l (events p (put (s .threads) n b) (upd ws n (ws n)) ys) es) (sym in-memory) (goes-same p (after (s .mem) e) B _ es left g)))
 
-  -- so it is, where the thread rests
+  -- what the event's thread has still to do
   abbrev fut : List Ev
   fut = (future p (s .threads) vs (st .n)) .evs
 
@@ -104,6 +105,7 @@ module _ (p : Prog) (es : List Ev) (s : St) (ws : ℕ → List Ev) (vs : ℕ →
   none-older [] q w = q
   none-older (x ∷ xs) q w = absurd (false-true (sym (st .over x (subst (λ (l : List Ev). In x l) (sym q) first) .1) ∙ w))
 
+  -- in the row it is the oldest
   in-row : (us : List Ev) → ws (st .n) ≡ st .older ++ (e ∷ us) → st .newer ≡ us ++ fut → Runs p s vs (e ∷ es)
   in-row us q y =
       let w = row .held e (subst (λ (l : List Ev). In e l) (sym q) (in-right (st .older) first)) .0 in
@@ -135,11 +137,13 @@ module _ (p : Prog) (es : List Ev) (s : St) (ws : ℕ → List Ev) (vs : ℕ →
       let (x, more-than, fits) = alone-fits n (suc (a .pc)) (drop (suc (a .pc)) (code p n)) (a .regs) (vs n) e j in
       no-fence (a .pc, less, more-than, ap (λ (c : Thread). nth c (a .pc)) (sym (code-is p n (st .code))) ∙ q)
 
+  -- behind the row it is the read of a load
   in-future : Rests (code p (st .n)) a (ws (st .n)) → (us : List Ev) → st .older ≡ ws (st .n) ++ us → fut ≡ us ++ (e ∷ st .newer) → Runs p s vs (e ∷ es)
   in-future (inl q) us z y = absurd (within (subst (λ (l : List Ev). In e l) (fut-is _ (end-rest (st .n) (code p (st .n)) a (vs (st .n)) q)) (in-fut us y)))
   in-future (inr (inl (r, x, q))) us z y = at-load r x q us z y
   in-future (inr (inr (q, (w, ts, h)))) us z y = absurd (at-fence q w ts h us z y)
 
+  -- one of the two it is, where the thread rests
   take-event : Rests (code p (st .n)) (stand (s .threads) (st .n)) (ws (st .n)) → Runs p s vs (e ∷ es)
   take-event r = elim (cut (ws (st .n)) fut (st .older) e (st .newer) (st .was)) [
     | inl (us, q, y) ↦ in-row us q y
