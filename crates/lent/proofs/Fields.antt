@@ -88,6 +88,7 @@ unfolding nibbles
 nibble-small a zero n = omega arith
 nibble-small zero (suc k) n = omega arith
 nibble-small (suc a) (suc k) n = nibble-small a k (n / 16)
+
 pub length-nibbles : (k n : ℕ) → length (nibbles k n) ≡ k
 unfolding nibbles
 length-nibbles zero n = refl
@@ -101,6 +102,7 @@ number-nibbles (suc k) n h =
     let e : 16 ^ suc k ≡ 16 ^ k * 16 = pow-suc 16 k in
     let i = number-nibbles k (n / 16) (omega arith) in
     omega arith
+
 -- a field written leaves the number below what it was below
 pub poked-below : (a k n v : ℕ) → v < 16 → a < k → n < 16 ^ k → poked a n v < 16 ^ k
 poked-below a zero n v hv h b = absurd (omega arith)

@@ -7,6 +7,7 @@ use Prim.Native.Nat.{ℕ, zero, suc, _+_, _*_, _/_, _%_}
 unfoldable pub nibbles : ℕ → ℕ → List ℕ
 nibbles zero n = []
 nibbles (suc k) n = n % 16 ∷ nibbles k (n / 16)
+
 -- the number with these fields
 unfoldable pub number : List ℕ → ℕ
 number [] = 0

@@ -39,15 +39,15 @@ row-pushed items begin len s h =
 pub small-set : (items : List Store) (i : ℕ) (s : Store) → s .place .0 < 8 → s .value < 16 → AllSmall items → AllSmall (set items i s)
 small-set items i s hp hv small k d h =
     let l = length-set items i s in
-    elim (cases-eq k i)
-      [ inl e ↦
-        let g : getD (set items i s) k d ≡ s = ap (λ j. getD (set items i s) j d) e ∙ getD-set-same items i s d (omega arith) in
-        (subst-lt (ap (λ (z : Store). z .place .0) g) hp, subst-lt (ap (λ (z : Store). z .value) g) hv)
+    elim (cases-eq k i) [
+      | inl e ↦
+          let g : getD (set items i s) k d ≡ s = ap (λ j. getD (set items i s) j d) e ∙ getD-set-same items i s d (omega arith) in
+          (subst-lt (ap (λ (z : Store). z .place .0) g) hp, subst-lt (ap (λ (z : Store). z .value) g) hv)
       | inr ne ↦
-        let g : getD (set items i s) k d ≡ getD items k d = getD-set-other items i k s d ne in
-        let r = small k d (omega arith) in
-        (subst-lt (ap (λ (z : Store). z .place .0) g) (r .0), subst-lt (ap (λ (z : Store). z .value) g) (r .1))
-      ]
+          let g : getD (set items i s) k d ≡ getD items k d = getD-set-other items i k s d ne in
+          let r = small k d (omega arith) in
+          (subst-lt (ap (λ (z : Store). z .place .0) g) (r .0), subst-lt (ap (λ (z : Store). z .value) g) (r .1))
+    ]
   where
     subst-lt : {a b n : ℕ} → a ≡ b → b < n → a < n
     subst-lt e h = omega arith

@@ -17,6 +17,7 @@ use Rattle.machine.specs.Meaning.{at, waits}
 abbrev pub Did : List ℕ → At → I → Option ThreadState → Type 0
 Did m a i (Some t) = does m a i ≡ some (at t)
 Did m a i None = does m a i ≡ none
+
 -- the oldest store gone out of a row, a number's of a place; none where nothing waits
 abbrev pub Popped : Row → Option (Store × Row) → Type 0
 Popped q (Some x) = (waits q ≡ wait (x .0) ∷ waits (x .1)) × (x .1 .begin + x .1 .len ≡ q .begin + q .len) × (x .0 .place .0 < 8) × (x .0 .value < 16)

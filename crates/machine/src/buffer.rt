@@ -22,8 +22,15 @@ impl Row {
         ensures none { λ r. ⌜ waits r ≡ [] ⌝ }
         ensures at { λ r. ⌜ r .begin + r .len ≡ 0 ⌝ }
     {
-        let s = Store { place: Place(0), value: 0 };
-        Row { items: [s; 8], begin: 0, len: 0 }
+        let s = Store {
+            place: Place(0),
+            value: 0,
+        };
+        Row {
+            items: [s; 8],
+            begin: 0,
+            len: 0,
+        }
     }
 
     // The number of the newest store to the place, else memory's.

@@ -1,11 +1,12 @@
 -- What is proved of the definitions.
-pub mod Cases
+pub mod StoreBuffering
 pub mod Tools
 pub mod OneProgram
 pub mod AlsoWaiting
 pub mod RunsUnderGuards
 pub mod RunLength
 pub mod OneEnd
+pub mod Orders
 pub mod EnoughFences
 pub mod Blocks
 pub mod FencesAreGuards

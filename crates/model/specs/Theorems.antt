@@ -11,6 +11,7 @@ use Rattle.model.specs.Code.{nth, I, stores, fence, ok, size, Thread, Prog, Re
 use Rattle.model.specs.Machine.{St, Move, moves, begin, all-done, outcome, all-at-once, is-store}
 use Rattle.model.specs.Outcomes.{Waiting, At-once, By-order, Is-plain, Shows}
 use Rattle.model.specs.Fences.{Spot, with-fences, First, Placed, Does-it, Fewest}
+use Rattle.model.specs.StoreBuffering.{Store-buffering}
 use Rattle.model.specs.Guards.{Guard, guards, gmoves, Guarded, hits, On, Apart, Meets}
 
 -- words are at most one program
@@ -90,6 +91,7 @@ Run-length = (p : Prog) (ms : List Move) (s : St) → moves p (begin p) ms ≡ s
 pub record Theorems : Type 0 where
   pub one-program : One-program
   pub also-waiting : Also-waiting
+  pub machine-is-orders : Machine-is-orders
   pub enough : Enough
   pub fences-are-guards : Fences-are-guards
   pub fences-at-once : Fences-at-once
@@ -102,3 +104,4 @@ pub record Theorems : Type 0 where
   pub one-end : One-end
   pub by-states : By-states
   pub run-length : Run-length
+  pub store-buffering : Store-buffering

@@ -17,6 +17,7 @@ use Rattle.program.proofs.Rows.{length-row-t, row-t-append, ok-t-push, instruc
 -- what the first word is, and what stands behind it
 begins-count : (s : List ℕ) (at : ℕ) → at < length s → (t : Thread) (rest : List ℕ) → Begins (drop at s) t rest → length t ≡ getD s at 0
 begins-count s at h t rest b = let e = b .is ∙ drop-more s at 0 h in cc
+
 begins-row : (s : List ℕ) (at : ℕ) → at < length s → (t : Thread) (rest : List ℕ) → Begins (drop at s) t rest → row-t t ++ rest ≡ drop (at + 1) s
 begins-row s at h t rest b = let e = b .is ∙ drop-more s at 0 h in cc
 
@@ -39,9 +40,9 @@ no-instruction s at k h l u no-i t rest b =
     let n = begins-count s at h t rest b in
     let (i, r) = instruction-at t rest k (b .fine) (omega arith) in
     let d : take 4 (drop (4 * k) (row-t t ++ rest)) ≡ four s (at + 1 + 4 * k) =
-        ap (λ w. take 4 (drop (4 * k) w)) (begins-row s at h t rest b)
-        ∙ ap (take 4) (drop-drop (4 * k) (at + 1) s)
-        ∙ ap (take 4) (four-at s (at + 1 + 4 * k) u) in
+    ap (λ w. take 4 (drop (4 * k) w)) (begins-row s at h t rest b)
+    ∙ ap (take 4) (drop-drop (4 * k) (at + 1) s)
+    ∙ ap (take 4) (four-at s (at + 1 + 4 * k) u) in
     no-i i (r .0 ∙ d, r .1)
 
 -- one more instruction
@@ -56,11 +57,11 @@ row-more s at k code i h u e before =
     let n : at + 1 + 4 * (k + 1) ≡ at + 1 + 4 * k + 4 = omega arith in
     let t = instructions code k in
     let row : row-t (instructions (set code k i) (k + 1)) ≡ row-t t ++ row-i (instruction i) =
-        ap row-t (instructions-more code k i h) ∙ row-t-append t (instruction i ∷ []) ∙ ap (λ r. row-t t ++ r) (append-nil (row-i (instruction i))) in
+    ap row-t (instructions-more code k i h) ∙ row-t-append t (instruction i ∷ []) ∙ ap (λ r. row-t t ++ r) (append-nil (row-i (instruction i))) in
     let rest : row-i (instruction i) ++ drop (at + 1 + 4 * (k + 1)) s ≡ drop (at + 1 + 4 * k) s =
-        ap (λ r. r ++ drop (at + 1 + 4 * (k + 1)) s) e
-        ∙ ap (λ m. four s (at + 1 + 4 * k) ++ drop m s) n
-        ∙ sym (four-at s (at + 1 + 4 * k) u) in
+    ap (λ r. r ++ drop (at + 1 + 4 * (k + 1)) s) e
+    ∙ ap (λ m. four s (at + 1 + 4 * k) ++ drop m s) n
+    ∙ sym (four-at s (at + 1 + 4 * k) u) in
     ap (λ r. r ++ drop (at + 1 + 4 * (k + 1)) s) row
     ∙ append-assoc (row-t t) (row-i (instruction i)) (drop (at + 1 + 4 * (k + 1)) s)
     ∙ ap (λ r. row-t t ++ r) rest
@@ -71,11 +72,11 @@ pub thread-begins : (s : List ℕ) (at len : ℕ) (code : List Instruction) → 
 thread-begins s at len code h e eight few row fine =
     let n : length (instructions code len) ≡ len = length-map (take len code) instruction ∙ length-take-le len code (omega arith) in
     let d : drop (1 + 4 * len) (drop at s) ≡ drop (at + 1 + 4 * len) s = drop-drop (1 + 4 * len) at s ∙ ap (λ m. drop m s) (omega arith) in
-    record
-      { is = ap (λ r. length (instructions code len) ∷ (row-t (instructions code len) ++ r)) d
-        ∙ ap (λ r. length (instructions code len) ∷ r) row
-        ∙ ap (λ m. m ∷ drop (at + 1) s) (n ∙ e)
-        ∙ sym (drop-more s at 0 h)
-      ; few = omega arith
-      ; fine = fine
-      }
+    record {
+      is = ap (λ r. length (instructions code len) ∷ (row-t (instructions code len) ++ r)) d
+          ∙ ap (λ r. length (instructions code len) ∷ r) row
+          ∙ ap (λ m. m ∷ drop (at + 1) s) (n ∙ e)
+          ∙ sym (drop-more s at 0 h);
+      few = omega arith;
+      fine = fine;
+    }

@@ -14,9 +14,11 @@ use Rattle.program.specs.Post.{Reads-i, Begins}
 pub and-both : (a b : Bool) → T a → T b → T (a && b)
 and-both true b h k = k
 and-both false b h k = h
+
 pub and-left : (a b : Bool) → T (a && b) → T a
 and-left true b h = tt
 and-left false b h = h
+
 pub and-right : (a b : Bool) → T (a && b) → T b
 and-right true b h = h
 and-right false b h = absurd h
@@ -27,6 +29,7 @@ length-row-i (adds r a b) = refl
 length-row-i (loads r x) = refl
 length-row-i (stores x r) = refl
 length-row-i fence = refl
+
 pub length-row-t : (t : Thread) → length (row-t t) ≡ 4 * length t
 length-row-t [] = refl
 length-row-t (i ∷ is) =
@@ -34,9 +37,11 @@ length-row-t (i ∷ is) =
     let b = length-row-i i in
     let c = length-row-t is in
     omega arith
+
 pub row-t-append : (a b : Thread) → row-t (a ++ b) ≡ row-t a ++ row-t b
 row-t-append [] b = refl
 row-t-append (i ∷ a) b = ap (λ s. row-i i ++ s) (row-t-append a b) ∙ sym (append-assoc (row-i i) (row-t a) (row-t b))
+
 pub ok-t-push : (t : Thread) (i : I) → T (ok-t t) → T (ok-i i) → T (ok-t (t ++ i ∷ []))
 ok-t-push [] i h k = and-both (ok-i i) true k tt
 ok-t-push (j ∷ t) i h k =
@@ -49,12 +54,14 @@ drop-row-i (adds r a b) s = refl
 drop-row-i (loads r x) s = refl
 drop-row-i (stores x r) s = refl
 drop-row-i fence s = refl
+
 take-row-i : (i : I) (s : List ℕ) → take 4 (row-i i ++ s) ≡ row-i i
 take-row-i (sets r n) s = refl
 take-row-i (adds r a b) s = refl
 take-row-i (loads r x) s = refl
 take-row-i (stores x r) s = refl
 take-row-i fence s = refl
+
 -- the four words of the k-th instruction
 pub instruction-at : (t : Thread) (rest : List ℕ) (k : ℕ) → T (ok-t t) → k < length t → (i : I) × Reads-i (take 4 (drop (4 * k) (row-t t ++ rest))) i
 instruction-at [] rest k f h = absurd (omega arith)
@@ -64,11 +71,12 @@ instruction-at (i ∷ is) rest (suc k) f h =
     let (j, r) = instruction-at is rest k (and-right (ok-i i) (ok-t is) f) (omega arith) in
     let n : 4 * suc k ≡ 4 + 4 * k = omega arith in
     let d : drop (4 * suc k) (row-t (i ∷ is) ++ rest) ≡ drop (4 * k) (row-t is ++ rest) =
-        ap (λ m. drop m (row-t (i ∷ is) ++ rest)) n
-        ∙ sym (drop-drop (4 * k) 4 (row-t (i ∷ is) ++ rest))
-        ∙ ap (λ s. drop (4 * k) (drop 4 s)) (append-assoc (row-i i) (row-t is) rest)
-        ∙ ap (drop (4 * k)) (drop-row-i i (row-t is ++ rest)) in
+    ap (λ m. drop m (row-t (i ∷ is) ++ rest)) n
+    ∙ sym (drop-drop (4 * k) 4 (row-t (i ∷ is) ++ rest))
+    ∙ ap (λ s. drop (4 * k) (drop 4 s)) (append-assoc (row-i i) (row-t is) rest)
+    ∙ ap (drop (4 * k)) (drop-row-i i (row-t is ++ rest)) in
     (j, (r .0 ∙ sym (ap (take 4) d), r .1))
+
 -- the four words at n
 pub four-at : (s : List ℕ) (n : ℕ) → n + 4 ≤ length s → drop n s ≡ getD s n 0 ∷ getD s (n + 1) 0 ∷ getD s (n + 2) 0 ∷ getD s (n + 3) 0 ∷ drop (n + 4) s
 four-at s n h =

@@ -22,7 +22,7 @@ instruction-added start before after w code k i h e f g =
     let t = instructions code k in
     let j = instruction (getD code k i) in
     let more : row-t (instructions code (k + 1)) ≡ row-t t ++ row-i j =
-        ap row-t (map-more instruction code k i h) ∙ row-t-append t (j ∷ []) ∙ ap (λ r. row-t t ++ r) (append-nil (row-i j)) in
+    ap row-t (map-more instruction code k i h) ∙ row-t-append t (j ∷ []) ∙ ap (λ r. row-t t ++ r) (append-nil (row-i j)) in
     f ∙ ap (λ r. r ++ w) e ∙ append-assoc start (row-t t) w ∙ ap (λ r. start ++ (row-t t ++ r)) g ∙ ap (λ r. start ++ r) (sym more)
 
 -- one more thread behind what was there at first
@@ -39,8 +39,10 @@ ok-all (t ∷ ts) =
     let few : length (thread t) ≤ 8 = let e = length-thread t in omega arith in
     and-both (leb (length (thread t)) 8) (ok-t (thread t) && ok-ts (map thread ts)) (le→leb (length (thread t)) 8 few)
     (and-both (ok-t (thread t)) (ok-ts (map thread ts)) (t .fine) (ok-all ts))
+
 pub length-program : (p : Program) → length (program p) ≡ p .count
 length-program p = length-map (take (p .count) (p .threads)) thread ∙ length-take-le (p .count) (p .threads) (omega arith)
+
 pub program-ok : (p : Program) → T (ok (program p))
 program-ok p =
     let e = length-program p in

@@ -12,6 +12,7 @@ instruction (Add r a b) = adds (r .0) (a .0) (b .0)
 instruction (Load r x) = loads (r .0) (x .0)
 instruction (Store x r) = stores (x .0) (r .0)
 instruction Fence = fence
+
 -- the first n of these instructions
 abbrev pub instructions : List Instruction → ℕ → Thread
 instructions is n = map instruction (take n is)

@@ -10,8 +10,10 @@ use Rattle.program.specs.Instructions.{instructions}
 
 abbrev pub thread : Thread → model.Thread
 thread t = instructions (t .code) (t .len)
+
 -- the first n of these threads
 abbrev pub threads : List Thread → ℕ → Prog
 threads ts n = map thread (take n ts)
+
 abbrev pub program : Program → Prog
 program p = threads (p .threads) (p .count)

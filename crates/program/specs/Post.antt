@@ -17,17 +17,21 @@ use Rattle.program.specs.Meaning.{thread, program}
 -- four words that are an instruction
 abbrev pub Reads-i : List ℕ → I → Type 0
 Reads-i s i = (row-i i ≡ s) × T (ok-i i)
+
 abbrev pub InstructionRead : List ℕ → Option Instruction → Type 0
 InstructionRead s (Some i) = Reads-i s (instruction i)
 InstructionRead s None = (i : I) → Reads-i s i → ⊥
+
 -- words that begin with a thread, behind which others stand
 pub record Begins (s : List ℕ) (t : model.Thread) (rest : List ℕ) : Type 0 where
   pub is : length t ∷ (row-t t ++ rest) ≡ s
   pub few : length t ≤ 8
   pub fine : T (ok-t t)
+
 abbrev pub ThreadRead : List ℕ → Option Thread → Type 0
 ThreadRead s (Some t) = Begins s (thread t) (drop (1 + 4 * t .len) s)
 ThreadRead s None = (t : model.Thread) (rest : List ℕ) → Begins s t rest → ⊥
+
 abbrev pub ProgramRead : List ℕ → Option Program → Type 0
 ProgramRead s (Some p) = Reads s (program p)
 ProgramRead s None = (p : Prog) → Reads s p → ⊥

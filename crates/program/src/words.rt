@@ -10,25 +10,34 @@ ghost use Rattle.model.specs.Code.{row-i, row-t, Reads};
 ghost use Rattle.program.specs.Instructions.{instruction};
 ghost use Rattle.program.specs.Meaning.{thread, program};
 ghost use Rattle.program.specs.Post.{InstructionRead, ThreadRead, ProgramRead};
-use std::alloc::AllocError;
-use std::alloc::Global;
 use crate::instructions::Instruction;
 use crate::instructions::Place;
 use crate::instructions::Register;
 use crate::threads::Program;
 use crate::threads::Thread;
+use std::alloc::AllocError;
+use std::alloc::Global;
 
 // The instruction that four words are, if they are one.
 fn instruction_from_words(code: u32, first: u32, second: u32, third: u32) -> Option<Instruction>
     ensures { λ r. ⌜ InstructionRead (code ∷ first ∷ second ∷ third ∷ []) r ⌝ }
 {
     match code {
-        0 if first < 4 && second < 16 && third == 0 => Some(Instruction::Set(Register(first), second)),
+        0 if first < 4 && second < 16 && third == 0 => Some(Instruction::Set(
+            Register(first),
+            second,
+        )),
         1 if first < 4 && second < 4 && third < 4 => {
             Some(Instruction::Add(Register(first), Register(second), Register(third)))
         }
-        2 if first < 4 && second < 8 && third == 0 => Some(Instruction::Load(Register(first), Place(second))),
-        3 if first < 8 && second < 4 && third == 0 => Some(Instruction::Store(Place(first), Register(second))),
+        2 if first < 4 && second < 8 && third == 0 => Some(Instruction::Load(
+            Register(first),
+            Place(second),
+        )),
+        3 if first < 8 && second < 4 && third == 0 => Some(Instruction::Store(
+            Place(first),
+            Register(second),
+        )),
         4 if first == 0 && second == 0 && third == 0 => Some(Instruction::Fence),
         0..=4 => None,
         5..=u32::MAX => None,
@@ -49,7 +58,12 @@ fn thread_from_words(words: &[u32], at: usize) -> Option<Thread>
     let mut code = [Instruction::Fence; 8];
     for k in 0..len {
         let i = at + 1 + 4 * k;
-        let Some(instruction) = instruction_from_words(words[i], words[i + 1], words[i + 2], words[i + 3]) else {
+        let Some(instruction) = instruction_from_words(
+            words[i],
+            words[i + 1],
+            words[i + 2],
+            words[i + 3],
+        ) else {
             return None;
         };
         code[k] = instruction;
@@ -68,7 +82,12 @@ pub fn from_words(words: &[u32]) -> Option<Program>
     if count < 1 || count > 4 {
         return None;
     }
-    let mut threads = [empty_thread(), empty_thread(), empty_thread(), empty_thread()];
+    let mut threads = [
+        empty_thread(),
+        empty_thread(),
+        empty_thread(),
+        empty_thread(),
+    ];
     let mut at = 1;
     for n in 0..count {
         let Some(thread) = thread_from_words(words, at) else {
@@ -84,7 +103,10 @@ pub fn from_words(words: &[u32]) -> Option<Program>
 }
 
 fn empty_thread() -> Thread {
-    Thread { code: [Instruction::Fence; 8], len: 0 }
+    Thread {
+        code: [Instruction::Fence; 8],
+        len: 0,
+    }
 }
 
 // The four words of an instruction.

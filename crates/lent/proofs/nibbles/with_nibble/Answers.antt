@@ -10,7 +10,7 @@ returns c =
     let at = c .args .at in
     let v = c .args .v in
     let e = shifted-in at n v (c .pre .place) (c .pre .value) (omega arith) in
-    record
-      { after = λ k h. ap (nibbles k) e ∙ nibbles-poked at k n v (c .pre .value) h
-      ; below = λ k h b. let l = poked-below at k n v (c .pre .value) h b in omega arith
-      }
+    record {
+      after = λ k h. ap (nibbles k) e ∙ nibbles-poked at k n v (c .pre .value) h;
+      below = λ k h b. let l = poked-below at k n v (c .pre .value) h b in omega arith;
+    }

@@ -16,12 +16,13 @@ loop-n-again c =
     let s = c .args .words .now in
     let b = c .in-Some .ensures tt in
     let some = false-eqb (length s) 0 (c .if-is-empty .ensures tt) in
-    let n : c .loop-n .n < length (c .loop-n .threads) = omega arith in
-    ( simp length-set (c .loop-n .inv .0)
-    , within s (c .loop-n .at) (c .in-Some .thread) b
-    , row-more s (c .loop-n .at) (c .loop-n .n) (c .loop-n .threads) (c .in-Some .thread) n b (c .loop-n .inv .2)
-    , ok-more (c .loop-n .n) (c .loop-n .threads) (c .in-Some .thread) n (c .loop-n .inv .3)
-    , stands-more s (c .loop-n .n) (c .loop-n .at) (c .in-Some .thread) (omega arith) (omega arith) b (c .loop-n .inv .4) )
+    let n : c .loop-n .n < length (c .loop-n .threads) = omega arith in (
+      simp length-set (c .loop-n .inv .0),
+      within s (c .loop-n .at) (c .in-Some .thread) b,
+      row-more s (c .loop-n .at) (c .loop-n .n) (c .loop-n .threads) (c .in-Some .thread) n b (c .loop-n .inv .2),
+      ok-more (c .loop-n .n) (c .loop-n .threads) (c .in-Some .thread) n (c .loop-n .inv .3),
+      stands-more s (c .loop-n .n) (c .loop-n .at) (c .in-Some .thread) (omega arith) (omega arith) b (c .loop-n .inv .4),
+    )
 
 pub returns-then-at-words : need.returns-then-at-words
 returns-then-at-words c =

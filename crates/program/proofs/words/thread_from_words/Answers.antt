@@ -24,10 +24,11 @@ pub loop-k-again : need.loop-k-again
 loop-k-again c =
     let k : c .loop-k .k < length (c .loop-k .code) = omega arith in
     let u : c .args .at + 1 + 4 * c .loop-k .k + 4 ≤ length (c .args .words .now) = omega arith in
-    let r = c .in-Some .ensures tt in
-    (simp length-set (c .loop-k .inv .0)
-    , row-more (c .args .words .now) (c .args .at) (c .loop-k .k) (c .loop-k .code) (c .in-Some .instruction) k u (r .0) (c .loop-k .inv .1)
-    , ok-more (c .loop-k .code) (c .loop-k .k) (c .in-Some .instruction) k (c .loop-k .inv .2) (r .1))
+    let r = c .in-Some .ensures tt in (
+      simp length-set (c .loop-k .inv .0),
+      row-more (c .args .words .now) (c .args .at) (c .loop-k .k) (c .loop-k .code) (c .in-Some .instruction) k u (r .0) (c .loop-k .inv .1),
+      ok-more (c .loop-k .code) (c .loop-k .k) (c .in-Some .instruction) k (c .loop-k .inv .2) (r .1),
+    )
 
 pub returns : need.returns
 returns c =

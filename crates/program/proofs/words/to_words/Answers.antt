@@ -19,11 +19,11 @@ pub returns : need.returns
 returns c =
     let p = c .args .p .now in
     let n : c .loop-n .n ≡ p .count = omega arith in
-    record
-      { is =
-        sym (c .loop-n .inv
-        ∙ ap (λ m. vec-items (c .push .last .self) ++ row-ts (threads (p .threads) m)) n
-        ∙ ap (λ a. a ++ row-ts (program p)) (c .in-Continue-push .ensures tt .items ∙ ap (λ a. a ++ (p .count ∷ [])) (c .new-words .ensures .items))
-        ∙ ap (λ m. m ∷ row-ts (program p)) (sym (length-program p)))
-      ; fine = program-ok p
-      }
+    record {
+      is =
+          sym (c .loop-n .inv
+          ∙ ap (λ m. vec-items (c .push .last .self) ++ row-ts (threads (p .threads) m)) n
+          ∙ ap (λ a. a ++ row-ts (program p)) (c .in-Continue-push .ensures tt .items ∙ ap (λ a. a ++ (p .count ∷ [])) (c .new-words .ensures .items))
+          ∙ ap (λ m. m ∷ row-ts (program p)) (sym (length-program p)));
+      fine = program-ok p;
+    }

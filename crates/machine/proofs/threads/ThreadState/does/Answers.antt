@@ -31,9 +31,9 @@ returns-in-Add c =
     let m = nibbles 8 (c .args .memory) in
     ap (λ (i : Instruction). does m (at t) (instruction i)) (c .in-Add .is)
     ∙ did-add m (at t) (at (c .with-register-in-Add .result)) (c .in-Add .r .0) (c .in-Add .a .0) (c .in-Add .b .0) (c .nibble .result) (c .nibble-in-Add .result)
-      (field-read 4 (t .regs) (c .in-Add .a .0) (c .nibble .result) (c .nibble .ensures .value 4 (search needs)))
-      (field-read 4 (t .regs) (c .in-Add .b .0) (c .nibble-in-Add .result) (c .nibble-in-Add .ensures .value 4 (search needs)))
-      (c .with-register-in-Add .ensures)
+    (field-read 4 (t .regs) (c .in-Add .a .0) (c .nibble .result) (c .nibble .ensures .value 4 (search needs)))
+    (field-read 4 (t .regs) (c .in-Add .b .0) (c .nibble-in-Add .result) (c .nibble-in-Add .ensures .value 4 (search needs)))
+    (c .with-register-in-Add .ensures)
 
 pub returns-in-Load : need.returns-in-Load
 returns-in-Load c =
@@ -41,9 +41,9 @@ returns-in-Load c =
     let m = nibbles 8 (c .args .memory) in
     ap (λ (i : Instruction). does m (at t) (instruction i)) (c .in-Load .is)
     ∙ did-load m (at t) (at (c .with-register-in-Load .result)) (c .in-Load .r .0) (c .in-Load .x .0) (c .nibble-in-Load .result) (c .newest-value .result)
-      (field-read 8 (c .args .memory) (c .in-Load .x .0) (c .nibble-in-Load .result) (c .nibble-in-Load .ensures .value 8 (search needs)))
-      (c .newest-value .ensures)
-      (c .with-register-in-Load .ensures)
+    (field-read 8 (c .args .memory) (c .in-Load .x .0) (c .nibble-in-Load .result) (c .nibble-in-Load .ensures .value 8 (search needs)))
+    (c .newest-value .ensures)
+    (c .with-register-in-Load .ensures)
 
 pub returns-in-Store : need.returns-in-Store
 returns-in-Store c =
@@ -51,8 +51,8 @@ returns-in-Store c =
     let m = nibbles 8 (c .args .memory) in
     ap (λ (i : Instruction). does m (at t) (instruction i)) (c .in-Store .is)
     ∙ did-store m (at t) (at (c .with-store .result)) (c .in-Store .x .0) (c .in-Store .r .0) (c .nibble-in-Store .result)
-      (field-read 4 (t .regs) (c .in-Store .r .0) (c .nibble-in-Store .result) (c .nibble-in-Store .ensures .value 4 (search needs)))
-      (c .with-store .ensures)
+    (field-read 4 (t .regs) (c .in-Store .r .0) (c .nibble-in-Store .result) (c .nibble-in-Store .ensures .value 4 (search needs)))
+    (c .with-store .ensures)
 
 pub returns-else-self-eq0 : need.returns-else-self-eq0
 returns-else-self-eq0 c =
