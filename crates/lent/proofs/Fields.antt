@@ -7,7 +7,7 @@ use native.Mathlib.Omega.{arith}
 use lib.Bits.{bitAnd, bitOr}
 use lib.ListN.{getD, set, length}
 use Rattle.std.proofs.shelf.Bits.{pow-pos, pow-add, shr-shr, shr-below, and-mask, or-shifted, one-shl, shl-whole, shr-le, mod-pow-add, mod-below}
-use Rattle.lent.specs.Nibbles.{nibbles, number}
+use Rattle.lent.specs.Nibbles.{nibbles, number, All-below}
 
 -- the field a of n as a quotient
 pub field : (a k n : ℕ) → a < k → getD (nibbles k n) a 0 ≡ n / 2 ^ (4 * a) % 16
@@ -111,3 +111,39 @@ poked-below (suc a) (suc k) n v hv h b =
     let e = pow-suc 16 k in
     let i = poked-below a k (n / 16) v hv (omega arith) (omega arith) in
     omega arith
+
+-- what stands above the fields does not matter
+pub nibbles-add : (k n h : ℕ) → nibbles k (n + 16 ^ k * h) ≡ nibbles k n
+unfolding nibbles
+nibbles-add zero n h = refl
+nibbles-add (suc k) n h =
+    let e : 16 ^ suc k * h ≡ 16 * (16 ^ k * h) = ap (λ z. z * h) (pow-suc 16 k) ∙ regroup (16 ^ k) h in
+    let a : (n + 16 ^ suc k * h) % 16 ≡ n % 16 = omega arith in
+    let b : (n + 16 ^ suc k * h) / 16 ≡ n / 16 + 16 ^ k * h = omega arith in
+    ap (λ z. z ∷ nibbles k ((n + 16 ^ suc k * h) / 16)) a ∙ ap (λ z. n % 16 ∷ nibbles k z) b ∙ ap (λ z. n % 16 ∷ z) (nibbles-add k (n / 16) h)
+  where
+    regroup : (p h : ℕ) → p * 16 * h ≡ 16 * (p * h)
+    regroup p h = omega arith
+
+pub nibbles-number : (ds : List ℕ) → All-below 16 ds → nibbles (length ds) (number ds) ≡ ds
+unfolding nibbles number
+nibbles-number [] h = refl
+nibbles-number (d ∷ ds) h =
+    let b = h .0 in
+    let e : (d + 16 * number ds) % 16 ≡ d = omega arith in
+    let f : (d + 16 * number ds) / 16 ≡ number ds = omega arith in
+    ap (λ z. z ∷ nibbles (length ds) ((d + 16 * number ds) / 16)) e ∙ ap (λ z. d ∷ nibbles (length ds) z) f ∙ ap (λ z. d ∷ z) (nibbles-number ds (h .1))
+
+pub number-below : (ds : List ℕ) → All-below 16 ds → number ds < 16 ^ length ds
+unfolding number
+number-below [] h = omega arith
+number-below (d ∷ ds) h =
+    let b = h .0 in
+    let e = pow-suc 16 (length ds) in
+    let i = number-below ds (h .1) in
+    omega arith
+
+pub nibbles-below : (k n : ℕ) → All-below 16 (nibbles k n)
+unfolding nibbles
+nibbles-below zero n = tt
+nibbles-below (suc k) n = (omega arith, nibbles-below k (n / 16))

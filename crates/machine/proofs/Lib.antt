@@ -1,3 +1,4 @@
 -- Lemmas on rows, states and moves.
 pub mod RowLaws
 pub mod Did
+pub mod PackLaws

@@ -17,7 +17,7 @@ newest-push : (ws : List Wait) (w : Wait) (x v : ℕ) → newest (ws ++ w ∷ []
 newest-push [] w x v = refl
 newest-push (u ∷ ws) w x v = newest-push ws w x (pick (eqb (u .place) x) (u .val) v)
 
-row-last : (items : List Store) (begin k : ℕ) (s : Store) → begin + k < length items → row items begin (k + 1) ≡ row items begin k ++ wait (getD items (begin + k) s) ∷ []
+pub row-last : (items : List Store) (begin k : ℕ) (s : Store) → begin + k < length items → row items begin (k + 1) ≡ row items begin k ++ wait (getD items (begin + k) s) ∷ []
 row-last items begin k s h =
     let l = length-drop begin items in
     ap (map wait) (take-more (drop begin items) k s (omega arith) ∙ ap (λ (z : Store). take k (drop begin items) ++ z ∷ []) (getD-drop begin items k s))
