@@ -46,6 +46,7 @@ number-push (e ∷ ds) d =
   where
     regroup : (a b p d : ℕ) → a + 16 * (b + p * d) ≡ a + 16 * b + p * 16 * d
     regroup a b p d = omega arith
+
 -- put in by a shift
 pub shifted-or : (k v d : ℕ) → k < 8 → v < 2 ^ (4 * k) → d < 16 → bitOr v (d * 2 ^ (4 * k) % 2 ^ 32) ≡ v + 2 ^ (4 * k) * d
 shifted-or k v d h b c =
@@ -53,6 +54,7 @@ shifted-or k v d h b c =
   where
     regroup : (d p v : ℕ) → d * p + v ≡ v + p * d
     regroup d p v = omega arith
+
 pub pushed-below : (k v d : ℕ) → v < 2 ^ (4 * k) → d < 16 → v + 2 ^ (4 * k) * d < 2 ^ (4 * (k + 1))
 pushed-below k v d b c =
     let n : 4 * (k + 1) ≡ 4 * k + 4 = omega arith in
@@ -62,10 +64,12 @@ pushed-below k v d b c =
   where
     le-pred : (d : ℕ) → d < 16 → d ≤ 15
     le-pred d h = omega arith
+
 pub length-row : (items : List Store) (begin k : ℕ) → begin + k ≤ length items → length (row items begin k) ≡ k
 length-row items begin k h =
     let l = length-drop begin items in
     length-map (take k (drop begin items)) wait ∙ length-take-le k (drop begin items) (omega arith)
+
 -- one more store packed, its number or its place
 pub packed-more : (f : Wait → ℕ) (items : List Store) (begin k v : ℕ) (s : Store) → begin + k < length items → k < 8 → f (wait (getD items (begin + k) s)) < 16 → v < 2 ^ (4 * k) → v ≡ number (map f (row items begin k)) → bitOr v (f (wait (getD items (begin + k) s)) * 2 ^ (4 * k) % 2 ^ 32) ≡ number (map f (row items begin (k + 1)))
 packed-more f items begin k v s h few small b e =
@@ -100,13 +104,15 @@ word-parts w v x a h =
     let e : first-word a ≡ w = let z = h .1 in cc in
     let p : 16 ^ length (a .regs) ≡ 65536 = ap (λ n. 16 ^ n) (i .four) in
     let r = number-below (a .regs) (i .regs) in
-    let g : first-word a ≡ number (a .regs) + 16 ^ 4 * (a .pc + 16 * length (a .waits)) = omega arith in
-    ( omega arith
-    , omega arith
-    , ap (nibbles 4) (sym e ∙ g)
-      ∙ nibbles-add 4 (number (a .regs)) (a .pc + 16 * length (a .waits))
-      ∙ ap (λ n. nibbles n (number (a .regs))) (sym (i .four))
-      ∙ nibbles-number (a .regs) (i .regs) )
+    let g : first-word a ≡ number (a .regs) + 16 ^ 4 * (a .pc + 16 * length (a .waits)) = omega arith in (
+      omega arith,
+      omega arith,
+      ap (nibbles 4) (sym e ∙ g)
+          ∙ nibbles-add 4 (number (a .regs)) (a .pc + 16 * length (a .waits))
+          ∙ ap (λ n. nibbles n (number (a .regs))) (sym (i .four))
+          ∙ nibbles-number (a .regs) (i .regs),
+    )
+
 pairs-packed : (ws : List Wait) → All-below 16 (values ws) → All-below 8 (places ws) → pairs (length ws) (number (values ws)) (number (places ws)) ≡ ws
 unfolding number
 pairs-packed [] h k = refl
@@ -125,6 +131,7 @@ pairs-packed (w ∷ ws) h k =
     ∙ ap (λ (z : List Wait). record { place = (w .place + 16 * m) % 16 % 8; val = (w .val + 16 * n) % 16 } ∷ z) i
     ∙ ap (λ z. record { place = z; val = (w .val + 16 * n) % 16 } ∷ ws) e1
     ∙ ap (λ z. record { place = w .place; val = z } ∷ ws) e2
+
 -- the words of a thread are that thread's alone
 pub unpacked : (w v x : ℕ) (a : At) → Packs-at w v x a → unpack-at w v x ≡ a
 unpacked w v x a h =
@@ -133,20 +140,23 @@ unpacked w v x a h =
     let ev : number (values (a .waits)) ≡ v = cc in
     let ex : number (places (a .waits)) ≡ x = cc in
     let r : pairs (w / 1048576) v x ≡ a .waits =
-        ap (λ n. pairs n v x) f
-        ∙ ap (λ n. pairs (length (a .waits)) n x) (sym ev)
-        ∙ ap (λ n. pairs (length (a .waits)) (number (values (a .waits))) n) (sym ex)
-        ∙ pairs-packed (a .waits) (h .0 .values) (h .0 .places) in
+    ap (λ n. pairs n v x) f
+    ∙ ap (λ n. pairs (length (a .waits)) n x) (sym ev)
+    ∙ ap (λ n. pairs (length (a .waits)) (number (values (a .waits))) n) (sym ex)
+    ∙ pairs-packed (a .waits) (h .0 .values) (h .0 .places) in
     ap (λ n. record { pc = n; regs = nibbles 4 w; waits = pairs (w / 1048576) v x }) e
     ∙ ap (λ rs. record { pc = a .pc; regs = rs; waits = pairs (w / 1048576) v x }) g
     ∙ ap (λ ws. record { pc = a .pc; regs = a .regs; waits = ws }) r
+
 pub three-words : (a b c a′ b′ c′ : ℕ) → a ≡ a′ → b ≡ b′ → c ≡ c′ → a ∷ b ∷ c ∷ [] ≡ a′ ∷ b′ ∷ c′ ∷ []
 three-words a b c a′ b′ c′ e f g = cc
+
 pub low-registers : (w : ℕ) → nibbles 4 (bitAnd w 65535) ≡ nibbles 4 w
 low-registers w =
     let m : bitAnd w 65535 ≡ w % 65536 = and-mask w 16 in
     let e : w % 65536 + 16 ^ 4 * (w / 65536) ≡ w = omega arith in
     ap (nibbles 4) m ∙ sym (nibbles-add 4 (w % 65536) (w / 65536)) ∙ ap (nibbles 4) e
+
 -- a thread by its parts
 pub same-at : (pc pc′ : ℕ) (rs rs′ : List ℕ) (ws ws′ : List Wait) → pc ≡ pc′ → rs ≡ rs′ → ws ≡ ws′ → _≡_ {A = At} (record { pc = pc; regs = rs; waits = ws }) (record { pc = pc′; regs = rs′; waits = ws′ })
 same-at pc pc′ rs rs′ ws ws′ e f g = cc

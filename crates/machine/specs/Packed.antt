@@ -10,16 +10,20 @@ use Rattle.model.specs.Machine.{Wait, At, St}
 
 abbrev pub values : List Wait → List ℕ
 values ws = map (λ (w : Wait). w .val) ws
+
 abbrev pub places : List Wait → List ℕ
 places ws = map (λ (w : Wait). w .place) ws
 
 abbrev pub first-word : At → ℕ
 first-word a = number (a .regs) + 65536 * a .pc + 1048576 * length (a .waits)
+
 abbrev pub pack-at : At → List ℕ
 pack-at a = first-word a ∷ number (values (a .waits)) ∷ number (places (a .waits)) ∷ []
+
 abbrev pub pack-ts : List At → List ℕ
 pack-ts [] = []
 pack-ts (a ∷ as₁) = pack-at a ++ pack-ts as₁
+
 unfoldable pub pack : St → List ℕ
 pack s = number (s .mem) ∷ pack-ts (s .threads)
 
@@ -27,6 +31,7 @@ pack s = number (s .mem) ∷ pack-ts (s .threads)
 abbrev pub pairs : ℕ → ℕ → ℕ → List Wait
 pairs zero v x = []
 pairs (suc k) v x = record { place = x % 16 % 8; val = v % 16 } ∷ pairs k (v / 16) (x / 16)
+
 -- the thread that three words are
 abbrev pub unpack-at : ℕ → ℕ → ℕ → At
 unpack-at w v x = record { pc = w / 65536 % 16; regs = nibbles 4 w; waits = pairs (w / 1048576) v x }
@@ -39,9 +44,11 @@ pub record Within-at (a : At) : Type 0 where
   pub held : length (a .waits) ≤ a .pc
   pub values : All-below 16 (values (a .waits))
   pub places : All-below 8 (places (a .waits))
+
 abbrev pub Within-ts : List At → Type 0
 Within-ts [] = Unit {0}
 Within-ts (a ∷ as₁) = Within-at a × Within-ts as₁
+
 pub record Within (s : St) : Type 0 where
   pub eight : length (s .mem) ≡ 8
   pub mem : All-below 16 (s .mem)
@@ -50,6 +57,7 @@ pub record Within (s : St) : Type 0 where
 -- the three words w are the thread a
 abbrev pub Packs-at : ℕ → ℕ → ℕ → At → Type 0
 Packs-at w v x a = Within-at a × (pack-at a ≡ w ∷ v ∷ x ∷ [])
+
 -- the words are the state s
 abbrev pub Packs : List ℕ → St → Type 0
 Packs ws s = Within s × (pack s ≡ ws)

@@ -20,7 +20,10 @@ fn unpack_row(len: usize, values: u32, places: u32) -> Row
     ensures begin { λ r. ⌜ r .begin ≡ 0 ⌝ }
     ensures len { λ r. ⌜ r .len ≡ len ⌝ }
 {
-    let mut items = [Store { place: Place(0), value: 0 }; 8];
+    let mut items = [Store {
+        place: Place(0),
+        value: 0,
+    }; 8];
     for k in 0..len {
         let shift = k as u32;
         items[k] = Store {
@@ -28,7 +31,11 @@ fn unpack_row(len: usize, values: u32, places: u32) -> Row
             value: nibble(values, shift),
         };
     }
-    Row { items, begin: 0, len }
+    Row {
+        items,
+        begin: 0,
+        len,
+    }
 }
 
 // The thread that three words are.

@@ -3,3 +3,4 @@ pub mod Rows
 pub mod ReadThread
 pub mod ReadProgram
 pub mod WriteWords
+pub mod Lookup

@@ -1,10 +1,11 @@
 -- What reading words promises: what is read, and that nothing else could be; or that nothing can be read.
 use mathlib.Core.Path.{_≡_}
 use mathlib.Core.List.{List, [], _∷_, _++_}
-use Prim.Native.Nat.{ℕ, _+_, _*_, _≤_}
+use Prim.Native.Nat.{ℕ, _+_, _*_, _≤_, _<_}
 use lib.ListN.{length, drop}
 use lib.Dec.{T}
-use Rattle.model.specs.Code.{I, ok-i, ok-t, row-i, row-t, Prog, Reads}
+use mathlib.Core.Option.{some, none}
+use Rattle.model.specs.Code.{opt, nth, I, ok-i, ok-t, row-i, row-t, Prog, Reads}
 use Rattle.model.specs.Code as model
 use Rattle.std.specs.declared.option.Option.{Option}
 use Rattle.std.specs.declared.option.Option.the-variants.{Some, None}
@@ -35,3 +36,8 @@ ThreadRead s None = (t : model.Thread) (rest : List ℕ) → Begins s t rest →
 abbrev pub ProgramRead : List ℕ → Option Program → Type 0
 ProgramRead s (Some p) = Reads s (program p)
 ProgramRead s None = (p : Prog) → Reads s p → ⊥
+
+-- the instruction k of thread n, which is within the limits and stands among the first eight; or that there is none
+abbrev pub InstructionAt : Prog → ℕ → ℕ → Option Instruction → Type 0
+InstructionAt p n k (Some i) = (opt (nth p n) none (λ t. nth t k) ≡ some (instruction i)) × T (ok-i (instruction i)) × (k < 8)
+InstructionAt p n k None = opt (nth p n) none (λ t. nth t k) ≡ none

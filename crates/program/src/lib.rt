@@ -1,4 +1,5 @@
 // Programs in code: instructions, threads and programs; from words and to words.
+pub mod access;
 pub mod instructions;
 pub mod threads;
 pub mod words;

@@ -27,8 +27,9 @@ loop-k-again c =
     let s = q .small (q .begin + k) _ h in
     let v = shifted-or k (c .loop-k .values) _ few (i .1) (s .1) in
     let p = below-16 _ (s .0) in
-    let x = shifted-or k (c .loop-k .places) _ few (i .3) p in
-    ( packed-more (λ (w : Wait). w .val) (q .items) (q .begin) k (c .loop-k .values) _ h few (s .1) (i .1) (i .0)
-    , (let b = pushed-below k (c .loop-k .values) _ (i .1) (s .1) in omega arith)
-    , packed-more (λ (w : Wait). w .place) (q .items) (q .begin) k (c .loop-k .places) _ h few p (i .3) (i .2)
-    , (let b = pushed-below k (c .loop-k .places) _ (i .3) p in omega arith) )
+    let x = shifted-or k (c .loop-k .places) _ few (i .3) p in (
+      packed-more (λ (w : Wait). w .val) (q .items) (q .begin) k (c .loop-k .values) _ h few (s .1) (i .1) (i .0),
+      (let b = pushed-below k (c .loop-k .values) _ (i .1) (s .1) in omega arith),
+      packed-more (λ (w : Wait). w .place) (q .items) (q .begin) k (c .loop-k .places) _ h few p (i .3) (i .2),
+      (let b = pushed-below k (c .loop-k .places) _ (i .3) p in omega arith),
+    )
