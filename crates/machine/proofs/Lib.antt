@@ -2,3 +2,4 @@
 pub mod RowLaws
 pub mod Did
 pub mod PackLaws
+pub mod StateLaws
