@@ -3,3 +3,4 @@ pub mod RowLaws
 pub mod Did
 pub mod PackLaws
 pub mod StateLaws
+pub mod MoveLaws

@@ -22,11 +22,6 @@ abbrev pub Did : List ℕ → At → I → Option ThreadState → Type 0
 Did m a i (Some t) = does m a i ≡ some (at t)
 Did m a i None = does m a i ≡ none
 
--- the oldest store gone out of a row, a number's of a place; none where nothing waits
-abbrev pub Popped : Row → Option (Store × Row) → Type 0
-Popped q (Some x) = (waits q ≡ wait (x .0) ∷ waits (x .1)) × (x .1 .begin + x .1 .len ≡ q .begin + q .len) × (x .0 .place .0 < 8) × (x .0 .value < 16)
-Popped q None = waits q ≡ []
-
 -- the words hold a state of the program p
 abbrev pub Holds : Prog → List ℕ → Type 0
 Holds p ws = (s : St) × Packs ws s × (length (s .threads) ≡ length p)

@@ -1,11 +1,10 @@
 // The row of waiting stores at work: what its thread reads, one store more, the oldest gone.
 ghost use mathlib.Core.Path.{_≡_};
-ghost use mathlib.Core.List.{_∷_, [], _++_};
+ghost use mathlib.Core.List.{List, _∷_, [], _++_};
 ghost use Prim.Native.Nat.{_+_, _<_};
-ghost use Rattle.model.specs.Machine.{newest};
+ghost use Rattle.model.specs.Machine.{Wait, newest};
 ghost use Rattle.machine.specs.Stores.{wait};
 ghost use Rattle.machine.specs.Meaning.{waits};
-ghost use Rattle.machine.specs.Post.{Popped};
 use crate::rows::Row;
 use crate::stores::Store;
 use program::instructions::Place;
@@ -75,18 +74,26 @@ impl Row {
         }
     }
 
-    // The oldest store, and the row without it.
-    pub fn popped(&self) -> Option<(Store, Row)>
-        ensures { λ r. ⌜ Popped (now (self .entry)) r ⌝ }
+    // The oldest store.
+    pub fn oldest(&self) -> Store
+        requires { ⌜ 0 < now self .len ⌝ }
+        ensures first { λ s. ⌜ ((ws : List Wait) × (waits (now (self .entry)) ≡ wait s ∷ ws)) ⌝ }
+        ensures place { λ s. ⌜ s .place .0 < 8 ⌝ }
+        ensures value { λ s. ⌜ s .value < 16 ⌝ }
     {
-        if self.len == 0 {
-            return None;
-        }
-        let rest = Row {
+        self.items[self.begin]
+    }
+
+    // The row without its oldest store.
+    pub fn rest(&self) -> Row
+        requires { ⌜ 0 < now self .len ⌝ }
+        ensures first { λ r. ⌜ ((w : Wait) × (waits (now (self .entry)) ≡ w ∷ waits r)) ⌝ }
+        ensures end { λ r. ⌜ r .begin + r .len ≡ now (self .entry) .begin + now (self .entry) .len ⌝ }
+    {
+        Row {
             items: self.items,
             begin: self.begin + 1,
             len: self.len - 1,
-        };
-        Some((self.items[self.begin], rest))
+        }
     }
 }

@@ -35,3 +35,47 @@ fn put_thread(state: &mut [u32], n: usize, t: &ThreadState)
     state[2 + 3 * n] = words[1];
     state[3 + 3 * n] = words[2];
 }
+
+// The next instruction of thread `n`: into `to` the state that it leads to, where it can be done.
+pub fn next(p: &Program, n: usize, from: &[u32], to: &mut [u32]) -> bool
+    requires same { ⌜ length (now to) ≡ length (now from) ⌝ }
+    requires room { ⌜ 3 + 3 * n < length (now from) ⌝ }
+    requires thread { ⌜ n < length (program (now p)) ⌝ }
+    requires holds { ⌜ Holds (program (now p)) (now from) ⌝ }
+    ensures { λ r. ⌜ Stepped (λ s. move (program (now (p .entry))) s (next-move n)) (now (from .entry)) r (now (to .exit)) ⌝ }
+{
+    let thread = thread_of(from, n);
+    let Some(i) = p.instruction(n, thread.pc) else {
+        return false;
+    };
+    let Some(done) = thread.does(from[0], i) else {
+        return false;
+    };
+    to.copy_from_slice(from);
+    put_thread(to, n, &done);
+    true
+}
+
+// The oldest store of thread `n` going to memory: into `to` the state that it leads to, where one waits.
+pub fn out(p: &Program, n: usize, from: &[u32], to: &mut [u32]) -> bool
+    requires same { ⌜ length (now to) ≡ length (now from) ⌝ }
+    requires room { ⌜ 3 + 3 * n < length (now from) ⌝ }
+    requires thread { ⌜ n < length (program (now p)) ⌝ }
+    requires holds { ⌜ Holds (program (now p)) (now from) ⌝ }
+    ensures { λ r. ⌜ Stepped (λ s. move (program (now (p .entry))) s (out-move n)) (now (from .entry)) r (now (to .exit)) ⌝ }
+{
+    let thread = thread_of(from, n);
+    if thread.row.len == 0 {
+        return false;
+    }
+    let oldest = thread.row.oldest();
+    let after = ThreadState {
+        pc: thread.pc,
+        regs: thread.regs,
+        row: thread.row.rest(),
+    };
+    to.copy_from_slice(from);
+    put_thread(to, n, &after);
+    to[0] = with_nibble(from[0], oldest.place.0, oldest.value);
+    true
+}
