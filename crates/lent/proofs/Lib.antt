@@ -1,2 +1,5 @@
 -- Laws of the tools.
 pub mod Fields
+pub mod Mixing
+pub mod RecordLaws
+pub mod Probing
