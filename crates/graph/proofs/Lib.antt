@@ -1,0 +1,1 @@
+-- Lemmas on walks and searches.
