@@ -1,1 +1,5 @@
 -- Lemmas on walks and searches.
+pub mod Walked
+mod Growing
+mod Linking
+mod Passing

@@ -3,7 +3,7 @@
 use mathlib.Core.Path.{_≡_}
 use mathlib.Core.Logic.{_⊎_}
 use mathlib.Core.List.{List}
-use Prim.Native.Nat.{ℕ, suc, _<_}
+use Prim.Native.Nat.{ℕ, zero, suc, _<_}
 use lib.ListN.{length, getD, drop}
 use Rattle.graph.specs.Walks.{Leads, Walk}
 
@@ -18,6 +18,11 @@ pub record Came (next : ℕ → ℕ → ℕ) (moves : ℕ) (cost from : List ℕ
 -- every marked node but the start was come to
 abbrev pub Linked : (ℕ → ℕ → ℕ) → ℕ → ℕ → List ℕ → List ℕ → Type 0
 Linked next moves n cost from = (j : ℕ) → j < n → 0 < j → Marked cost j → Came next moves cost from j
+
+-- from node j one comes back to the start by d links of 'from', each to an earlier node
+abbrev pub Links : List ℕ → ℕ → ℕ → Type 0
+Links from zero j = j ≡ 0
+Links from (suc d) j = (getD from j 0 < j) × (j < length from) × Links from d (getD from j 0)
 
 -- the nodes that walks from the start lead to are marked, and no others
 pub record Searched (next : ℕ → ℕ → ℕ) (moves n : ℕ) (cost from : List ℕ) : Type 0 where
