@@ -3,3 +3,4 @@ pub mod Walked
 mod Growing
 mod Linking
 mod Passing
+mod Tracing

@@ -2,3 +2,4 @@
 pub mod Rules
 pub mod Walks
 pub mod Search
+pub mod Back

@@ -2,3 +2,4 @@
 // what they cost.
 pub mod rules;
 pub mod search;
+pub mod walks;
