@@ -1,6 +1,14 @@
 -- Where moves lead: a node and a move to 0 where there is no edge that may be taken, else to the node come to, plus 1.
 use mathlib.Core.Path.{_≡_}
-use Prim.Native.Nat.{ℕ, zero, suc, _+_, _^_, _<_}
+use mathlib.Core.List.{List}
+use Prim.Native.Nat.{ℕ, zero, suc, _+_, _*_, _^_, _<_}
+use lib.ListN.{length, getD}
+
+-- all kept edges: at i * width + m stands where move m leads from node i
+abbrev pub kept : List ℕ → ℕ → ℕ → ℕ → ℕ
+kept edges width i m = getD edges (i * width + m) 0
+abbrev pub Keeps : List ℕ → ℕ → ℕ → ℕ → Type 0
+Keeps edges width i m = i * width + m < length edges
 
 -- two edges joined into one: a move m, and then m + shift where there is such an edge
 abbrev pub later : ℕ → ℕ → ℕ

@@ -1,10 +1,9 @@
 // Which edges a search may take. Kept successors are words: at `node * width + move` stands 0 where there is no edge, else
 // the node come to, plus 1. The same words are searched under several rules.
 ghost use mathlib.Core.Path.{_≡_};
-ghost use Prim.Native.Nat.{ℕ, _+_, _*_, _<_};
-ghost use lib.ListN.{length, getD};
+ghost use Prim.Native.Nat.{ℕ};
 ghost use denote.Ref.{now};
-ghost use Rattle.graph.specs.Rules.{joined, Joins};
+ghost use Rattle.graph.specs.Rules.{kept, Keeps, joined, Joins};
 
 // Where a move leads: 0 where there is no edge that may be taken, else the node come to, plus 1; and what the edge costs.
 #[derive(Clone, Copy)]
@@ -33,9 +32,9 @@ pub struct Kept<'a> {
 }
 
 pub impl Rule for Kept<'_> as KeptRule {
-    ghost can = { λ s i m. i * s .width + m < length (now (s .edges)) };
+    ghost can = { λ s. Keeps (now (s .edges)) (s .width) };
 
-    ghost next = { λ s i m. getD (now (s .edges)) (i * s .width + m) 0 };
+    ghost next = { λ s. kept (now (s .edges)) (s .width) };
 
     fn edge(&self, node: usize, by: usize) -> Edge {
         Edge { target: self.edges[node * self.width + by], cost: 0 }
@@ -49,9 +48,9 @@ pub struct Joined<R> {
 }
 
 pub impl<R: Rule> Rule for Joined<R> as JoinedRule {
-    ghost can = { λ s i m. Joins (R·Rule .can (s .rule)) (R·Rule .next (s .rule)) (s .shift) i m };
+    ghost can = { λ s. Joins (R·Rule .can (s .rule)) (R·Rule .next (s .rule)) (s .shift) };
 
-    ghost next = { λ s i m. joined (R·Rule .next (s .rule)) (s .shift) i m };
+    ghost next = { λ s. joined (R·Rule .next (s .rule)) (s .shift) };
 
     fn edge(&self, node: usize, by: usize) -> Edge {
         let first = self.rule.edge(node, by);
