@@ -26,6 +26,7 @@ pub trait Rule {
 }
 
 // All kept edges, at no cost.
+#[derive(Clone, Copy)]
 pub struct Kept<'a> {
     pub edges: &'a [u32],
     pub width: usize,
@@ -42,6 +43,7 @@ pub impl Rule for Kept<'_> as KeptRule {
 }
 
 // A move and, where there is such an edge, `shift` moves further on, as one edge.
+#[derive(Clone, Copy)]
 pub struct Joined<R> {
     pub rule: R,
     pub shift: usize,
