@@ -19,6 +19,7 @@ module _ (next : ℕ → ℕ → ℕ) (moves n : ℕ) (c f : List ℕ) where
       let p = w .before in
       let (d, q) = links-under room l b (getD f (suc j) 0) (omega arith) (omega arith) (w .marked) in
       (suc d, (p, omega arith, q))
+
   pub links-of : n ≤ length f → Linked next moves n c f → (j : ℕ) → j < n → Marked c j → (d : ℕ) × Links f d j
   links-of room l j h m = links-under room l (suc j) j (omega arith) h m
 

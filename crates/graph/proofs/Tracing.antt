@@ -23,26 +23,31 @@ module _ (from : List ℕ) (to : ℕ) where
   link-down : (d node : ℕ) → 0 < node → Links from d node → getD from node 0 < node
   link-down zero node p l = absurd (omega arith)
   link-down (suc d) node p l = l .0
+
   link-room : (d node : ℕ) → 0 < node → Links from d node → node < length from
   link-room zero node p l = absurd (omega arith)
   link-room (suc d) node p l = l .1
+
   link-rest : (d node : ℕ) → 0 < node → Links from d node → (e : ℕ) × Links from e (getD from node 0)
   link-rest zero node p l = absurd (omega arith)
   link-rest (suc d) node p l = (d, l .2)
 
   pub counted-down : (len node : ℕ) → 0 < node → Counted from to len node → getD from node 0 < node
   counted-down len node p c = link-down (c .left .0) node p (c .left .1)
+
   pub counted-room : (len node : ℕ) → 0 < node → Counted from to len node → node < length from
   counted-room len node p c = link-room (c .left .0) node p (c .left .1)
+
   pub counted-more : (len node : ℕ) → 0 < node → Counted from to len node → Counted from to (len + 1) (getD from node 0)
   counted-more len node p c =
       let down = counted-down len node p c in
       let few = c .few in
-      record
-        { left = link-rest (c .left .0) node p (c .left .1)
-        ; done = λ d l. subst (λ (e : ℕ). Links from e to) (omega arith) (c .done (suc d) (down, counted-room len node p c, l))
-        ; few = omega arith
-        }
+      record {
+        left = link-rest (c .left .0) node p (c .left .1);
+        done = λ d l. subst (λ (e : ℕ). Links from e to) (omega arith) (c .done (suc d) (down, counted-room len node p c, l));
+        few = omega arith;
+      }
+
   pub counted-all : (len node : ℕ) → node ≡ 0 → Counted from to len node → Links from len to
   counted-all len node z c = subst (λ (e : ℕ). Links from e to) (omega arith) (c .done 0 z)
 
@@ -57,8 +62,10 @@ module _ (can : ℕ → ℕ → Type 0) (next : ℕ → ℕ → ℕ) (moves : �
 
   traced-came : (node : ℕ) → 0 < node → (t : Traced can next moves from node) → Came next moves (t .cost) from node
   traced-came node p t = t .linked node (t .within) p (t .marked)
+
   pub traced-leads : (node : ℕ) → 0 < node → Traced can next moves from node → Leads next moves (getD from node 0) node
   traced-leads node p t = traced-came node p t .edge
+
   pub traced-more : (node : ℕ) → 0 < node → Traced can next moves from node → Traced can next moves from (getD from node 0)
   traced-more node p t =
       let w = traced-came node p t in
@@ -91,22 +98,22 @@ module _ (can : ℕ → ℕ → Type 0) (next : ℕ → ℕ → ℕ) (moves : �
       let p = filled-some to len was (suc at) node path (omega arith) f in
       let long = f .long in
       let one : at + 1 ≡ suc at = omega arith in
-      record
-        { traced = traced-more node p (f .traced)
-        ; links = f .links .2
-        ; ms = m ∷ f .ms
-        ; walk = (node, u, e, f .walk)
-        ; is = drop-set path at m h ∙ ap (λ (k : ℕ). m ∷ drop k path) one ∙ ap (λ (w : List ℕ). m ∷ w) (f .is)
-        ; long = omega arith
-        }
+      record {
+        traced = traced-more node p (f .traced);
+        links = f .links .2;
+        ms = m ∷ f .ms;
+        walk = (node, u, e, f .walk);
+        is = drop-set path at m h ∙ ap (λ (k : ℕ). m ∷ drop k path) one ∙ ap (λ (w : List ℕ). m ∷ w) (f .is);
+        long = omega arith;
+      }
 
   pub filled-all : (to len : ℕ) (was : List ℕ) (at node : ℕ) (path : List ℕ) → at ≡ 0 → len ≤ length path → Filled to len was at node path → Written next moves to len was path
   filled-all to len was zero node path z h f =
       let long : length (f .ms) ≡ len = let l = f .long in omega arith in
       let w : Walk next moves 0 (f .ms) to = subst (λ (k : ℕ). Walk next moves k (f .ms) to) (f .links) (f .walk) in
-      record
-        { fits = h
-        ; walk = subst (λ (k : List ℕ). Walk next moves 0 k to) (sym (ap (take len) (f .is) ∙ take-at (f .ms) (drop len was) len long)) w
-        ; behind = ap (drop len) (f .is) ∙ drop-at (f .ms) (drop len was) len long
-        }
+      record {
+        fits = h;
+        walk = subst (λ (k : List ℕ). Walk next moves 0 k to) (sym (ap (take len) (f .is) ∙ take-at (f .ms) (drop len was) len long)) w;
+        behind = ap (drop len) (f .is) ∙ drop-at (f .ms) (drop len was) len long;
+      }
   filled-all to len was (suc at) node path z h f = absurd (omega arith)

@@ -23,10 +23,12 @@ pub record Written (next : ℕ → ℕ → ℕ) (moves to len : ℕ) (was path :
   pub fits : len ≤ length path
   pub walk : Walk next moves 0 (take len path) to
   pub behind : drop len path ≡ drop len was
+
 -- the path is too short for a walk to the node, and is as it was
 pub record TooLong (next : ℕ → ℕ → ℕ) (moves to : ℕ) (was path : List ℕ) : Type 0 where
   pub walk : (ms : List ℕ) × (length was < length ms) × Walk next moves 0 ms to
   pub same : path ≡ was
+
 abbrev pub Told : (ℕ → ℕ → ℕ) → ℕ → ℕ → List ℕ → List ℕ → Option ℕ → Type 0
 Told next moves to was path (Some len) = Written next moves to len was path
 Told next moves to was path None = TooLong next moves to was path

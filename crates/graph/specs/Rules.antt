@@ -7,6 +7,7 @@ use lib.ListN.{length, getD}
 -- all kept edges: at i * width + m stands where move m leads from node i
 abbrev pub kept : List ℕ → ℕ → ℕ → ℕ → ℕ
 kept edges width i m = getD edges (i * width + m) 0
+
 abbrev pub Keeps : List ℕ → ℕ → ℕ → ℕ → Type 0
 Keeps edges width i m = i * width + m < length edges
 
@@ -14,11 +15,14 @@ Keeps edges width i m = i * width + m < length edges
 abbrev pub later : ℕ → ℕ → ℕ
 later t zero = t
 later t (suc k) = suc k
+
 abbrev pub onward : (ℕ → ℕ) → ℕ → ℕ
 onward f zero = 0
 onward f (suc j) = later (suc j) (f j)
+
 abbrev pub joined : (ℕ → ℕ → ℕ) → ℕ → ℕ → ℕ → ℕ
 joined next shift i m = onward (λ j. next j (m + shift)) (next i m)
+
 -- where both edges may be asked for
 pub record Joins (can : ℕ → ℕ → Type 0) (next : ℕ → ℕ → ℕ) (shift i m : ℕ) : Type 0 where
   pub first : can i m

@@ -15,6 +15,7 @@ pub record Came (next : ℕ → ℕ → ℕ) (moves : ℕ) (cost from : List ℕ
   pub before : getD from j 0 < j
   pub marked : Marked cost (getD from j 0)
   pub edge : Leads next moves (getD from j 0) j
+
 -- every marked node but the start was come to
 abbrev pub Linked : (ℕ → ℕ → ℕ) → ℕ → ℕ → List ℕ → List ℕ → Type 0
 Linked next moves n cost from = (j : ℕ) → j < n → 0 < j → Marked cost j → Came next moves cost from j

@@ -38,7 +38,10 @@ pub impl Rule for Kept<'_> as KeptRule {
     ghost next = { λ s. kept (now (s .edges)) (s .width) };
 
     fn edge(&self, node: usize, by: usize) -> Edge {
-        Edge { target: self.edges[node * self.width + by], cost: 0 }
+        Edge {
+            target: self.edges[node * self.width + by],
+            cost: 0,
+        }
     }
 }
 
@@ -63,6 +66,9 @@ pub impl<R: Rule> Rule for Joined<R> as JoinedRule {
         if second.target == 0 {
             return first;
         }
-        Edge { target: second.target, cost: first.cost.saturating_add(second.cost) }
+        Edge {
+            target: second.target,
+            cost: first.cost.saturating_add(second.cost),
+        }
     }
 }

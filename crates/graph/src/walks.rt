@@ -58,7 +58,13 @@ fn fill_path<R: Rule>(rule: &R, moves: usize, from: &[u32], to: usize, len: usiz
 
 // Writes the moves of the walk to `to` that a search found into `path`, and says how many they are; `None` where they are
 // more than `path` has words.
-pub fn walk_back<R: Rule>(rule: &R, moves: usize, from: &[u32], to: usize, path: &mut [u32]) -> Option<usize>
+pub fn walk_back<R: Rule>(
+    rule: &R,
+    moves: usize,
+    from: &[u32],
+    to: usize,
+    path: &mut [u32],
+) -> Option<usize>
     requires few { ⌜ moves ≤ 2 ^ 32 ⌝ }
     requires traced { ⌜ Traced (can (now rule)) (next (now rule)) moves (now from) to ⌝ }
     ensures { λ r. ⌜ Told (next (now (rule .entry))) moves to (now (path .entry)) (now (path .exit)) r ⌝ }

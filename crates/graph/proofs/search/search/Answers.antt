@@ -6,12 +6,12 @@ use Rattle.graph.proofs.search.search.Needs as need
 
 pub visit-requires : need.visit-requires
 visit-requires g c κs =
-    record
-      { within = omega arith
-      ; steps =
-        steps-of (g .R·Rule .can (c .args .rule .now)) (g .R·Rule .next (c .args .rule .now)) (c .args .moves) (c .args .n) (c .loop-node .node)
-        (c .loop-node .cost) (c .loop-node .from) (c .pre .ahead) (c .loop-node-test .taken) (omega arith) (omega arith)
-      }
+    record {
+      within = omega arith;
+      steps =
+          steps-of (g .R·Rule .can (c .args .rule .now)) (g .R·Rule .next (c .args .rule .now)) (c .args .moves) (c .args .n) (c .loop-node .node)
+          (c .loop-node .cost) (c .loop-node .from) (c .pre .ahead) (omega arith) (omega arith) (omega arith);
+    }
 
 pub loop-node-holds : need.loop-node-holds
 loop-node-holds g c =
@@ -21,14 +21,14 @@ pub loop-node-again : need.loop-node-again
 loop-node-again g c =
     passed-more (g .R·Rule .can (c .args .rule .now)) (g .R·Rule .next (c .args .rule .now)) (c .args .moves) (c .args .n) (c .pre .ahead) (c .loop-node .node)
     (c .begin .last .cost) (c .args .from .now) (c .loop-node .cost) (c .loop-node .from) (c .visit .last .cost) (c .visit .last .from)
-    (c .loop-node-test .taken) (c .loop-node .inv) (c .visit .ensures)
+    (omega arith) (c .loop-node .inv) (c .visit .ensures)
 
 pub returns : need.returns
 returns g c =
-    record
-      { searched =
-        passed-all (g .R·Rule .can (c .args .rule .now)) (g .R·Rule .next (c .args .rule .now)) (c .args .moves) (c .args .n) (c .pre .ahead) (c .loop-node .node)
-        (c .begin .last .cost) (c .args .from .now) (c .loop-node .cost) (c .loop-node .from) (c .pre .some) (omega arith) (c .loop-node-test .left) (c .loop-node .inv)
-      ; cost-behind = drop-behind (c .args .n) (c .begin .last .cost) (c .loop-node .cost) (omega arith) (c .loop-node .inv .cost-behind) ∙ c .begin .ensures .behind
-      ; from-behind = drop-behind (c .args .n) (c .args .from .now) (c .loop-node .from) (omega arith) (c .loop-node .inv .from-behind)
-      }
+    record {
+      searched =
+          passed-all (g .R·Rule .can (c .args .rule .now)) (g .R·Rule .next (c .args .rule .now)) (c .args .moves) (c .args .n) (c .pre .ahead) (c .loop-node .node)
+          (c .begin .last .cost) (c .args .from .now) (c .loop-node .cost) (c .loop-node .from) (c .pre .some) (omega arith) (omega arith) (c .loop-node .inv);
+      cost-behind = drop-behind (c .args .n) (c .begin .last .cost) (c .loop-node .cost) (omega arith) (c .loop-node .inv .cost-behind) ∙ c .begin .ensures .behind;
+      from-behind = drop-behind (c .args .n) (c .args .from .now) (c .loop-node .from) (omega arith) (c .loop-node .inv .from-behind);
+    }

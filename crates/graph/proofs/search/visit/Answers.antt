@@ -1,16 +1,13 @@
-use mathlib.Core.Path.{_≡_}
 use Prim.Native.Nat.{_<_, _≤_}
 use native.Mathlib.Omega.{arith}
 use lib.ListN.{length}
-use Rattle.graph.specs.Search.{Steps}
-use Rattle.graph.specs.Walks.{Leads}
 use Rattle.graph.proofs.Growing.{grown-none, leads-more, leads-all, ahead-of, within-cost, within-from}
 use Rattle.graph.proofs.search.visit.Needs as need
 
 pub relax-requires : need.relax-requires
 relax-requires g c κs =
     let s = c .pre .steps in
-    let h = c .loop-m-test .taken in
+    let h : c .loop-m .m < c .args .moves = omega arith in
     let e = c .edge .ensures in
     let in-cost : c .edge .result .target ≤ length (c .args .cost .now) = within-cost _ _ _ _ _ _ s _ h _ e in
     let in-from : c .edge .result .target ≤ length (c .args .from .now) = within-from _ _ _ _ _ _ s _ h _ e in
@@ -18,8 +15,7 @@ relax-requires g c κs =
 
 pub loop-m-holds : need.loop-m-holds
 loop-m-holds g c =
-    grown-none (Leads (g .R·Rule .next (c .args .rule .now)) 0 (c .args .node)) (c .args .node) (c .args .cost .now) (c .args .from .now)
-    (λ k e. let h = e .1 in omega arith)
+    grown-none _ (c .args .node) (c .args .cost .now) (c .args .from .now) (λ k e. let h = e .1 in omega arith)
 
 pub loop-m-again : need.loop-m-again
 loop-m-again g c =

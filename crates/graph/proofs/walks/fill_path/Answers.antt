@@ -8,13 +8,13 @@ find-move-requires g c κs =
     let next = g .R·Rule .next (c .args .rule .now) in
     let traced = c .back .inv .traced in
     let some =
-        filled-some can next (c .args .moves) (c .args .from .now) (c .args .to) (c .args .len) (c .args .path .now) (c .back .at) (c .back .node) (c .back .path)
-        (c .back-test .taken) (c .back .inv) in
-    record
-      { may = traced-may can next (c .args .moves) (c .args .from .now) (c .back .node) some traced
-      ; leads = traced-leads can next (c .args .moves) (c .args .from .now) (c .back .node) some traced
-      ; fits = let h = traced .within in let r = traced .room in omega arith
-      }
+    filled-some can next (c .args .moves) (c .args .from .now) (c .args .to) (c .args .len) (c .args .path .now) (c .back .at) (c .back .node) (c .back .path)
+    (c .back-test .taken) (c .back .inv) in
+    record {
+      may = traced-may can next (c .args .moves) (c .args .from .now) (c .back .node) some traced;
+      leads = traced-leads can next (c .args .moves) (c .args .from .now) (c .back .node) some traced;
+      fits = let h = traced .within in let r = traced .room in omega arith;
+    }
 
 pub back-again : need.back-again
 back-again g c =
