@@ -1,0 +1,3 @@
+-- Laws of sets of bits.
+pub mod Halves
+pub mod Jumps

@@ -1,0 +1,3 @@
+-- Sets of bits, and what the functions promise of them.
+pub mod Masks
+pub mod Post
