@@ -10,7 +10,7 @@ use lib.Count.{ones, ones-step, trailingZeros, under}
 use lib.Pow.{shr-shr, pow-pos}
 use Rattle.std.proofs.shelf.Tests.{cases-eq, cases-lt}
 use Rattle.hitting.specs.Masks.{Within}
-use Rattle.hitting.proofs.Halves.{cases-digit, within-half, within-digit, within-from, within-le, within-trans, and-within-l, ones-none}
+use Rattle.hitting.proofs.Halves.{cases-digit, within-half, within-digit, within-from, within-le, ones-none}
 
 -- of the sets within u below y, y itself within u, the greatest is what u has of y - 1
 pub next-below : (y u z : ℕ) → Within y u → Within z u → z < y → z ≤ bitAnd (y - 1) u
@@ -94,9 +94,6 @@ between-ones =
         ]
       | inr e ↦ let l = lowest-odd x e in absurd (omega arith)
       ])
-
-pub lowest-within : (x u : ℕ) → Within x u → Within (bitAnd x (x - 1)) u
-lowest-within x u e = within-trans (bitAnd x (x - 1)) x u (and-within-l x (x - 1)) e
 
 -- x with its t lowest bits left out
 pub floor : ℕ → ℕ → ℕ
@@ -208,6 +205,10 @@ rest-ones =
 -- the greatest set within u up to m, where j is the highest bit of m outside u: all of u below that bit may come in
 pub fill : ℕ → ℕ → ℕ → ℕ
 fill j m u = bitAnd (bitOr m (2 ^ j - 1)) u
+
+pub fill-is : (j m u : ℕ) → fill j m u ≡ bitAnd (bitOr m (2 ^ j - 1)) u
+unfolding fill
+fill-is j m u = refl
 
 pub fill-none : (m u : ℕ) → fill 0 m u ≡ bitAnd m u
 unfolding fill

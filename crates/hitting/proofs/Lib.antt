@@ -1,3 +1,5 @@
 -- Laws of sets of bits.
 pub mod Halves
 pub mod Jumps
+pub mod Steps
+pub mod Unions

@@ -5,9 +5,9 @@ ghost use Rattle.hitting.specs.Post.{FirstMissed, Union};
 pub fn first_missed(clauses: &[u32], x: u32) -> Option<usize>
     ensures { λ r. ⌜ FirstMissed (now (clauses .entry)) x r ⌝ }
 {
-    'clauses: for (k, clause) in clauses.iter().enumerate() {
+    'each: for (k, clause) in clauses.iter().enumerate() {
         if x & *clause != 0 {
-            continue 'clauses;
+            continue 'each;
         }
         return Some(k);
     }
