@@ -3,3 +3,5 @@ pub mod Halves
 pub mod Jumps
 pub mod Steps
 pub mod Unions
+pub mod Bits
+pub mod Spots
