@@ -5,3 +5,4 @@ pub mod Steps
 pub mod Unions
 pub mod Bits
 pub mod Spots
+pub mod Theorems

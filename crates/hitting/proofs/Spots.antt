@@ -176,3 +176,27 @@ greater-before (suc n) s x y e h k l g =
     before-with n s (x / 2 ^ n) (y / 2 ^ n) (x % 2 ^ n) (y % 2 ^ n) (omega arith) (half-high n x h) (half-high n y k) (low-lt n x) (low-lt n y) l
     (let p = split x n in let q = split y n in omega arith)
     (greater-before n (suc s) (x % 2 ^ n) (y % 2 ^ n) (omega arith) (low-lt n x) (low-lt n y))
+
+before-same : (ss : List ℕ) → Before ss ss → ⊥
+before-same [] b = b
+before-same (s ∷ ss) (inl h) = omega arith
+before-same (s ∷ ss) (inr (e, b)) = before-same ss b
+
+before-both : (ss ts : List ℕ) → Before ss ts → Before ts ss → ⊥
+before-both [] ts a b = a
+before-both (s ∷ ss) [] a b = a
+before-both (s ∷ ss) (t ∷ ts) (inl h) (inl k) = omega arith
+before-both (s ∷ ss) (t ∷ ts) (inl h) (inr (e, b)) = omega arith
+before-both (s ∷ ss) (t ∷ ts) (inr (e, a)) (inl k) = omega arith
+before-both (s ∷ ss) (t ∷ ts) (inr (e, a)) (inr (f, b)) = before-both ss ts a b
+
+pub before-greater : (n s x y : ℕ) → n + s ≡ 32 → x < 2 ^ n → y < 2 ^ n → length (spots n s x) ≡ length (spots n s y) → Before (spots n s x) (spots n s y) → y < x
+before-greater n s x y e h k l b =
+    elim (cases-order y x)
+    [ inl same ↦ absurd (before-same (spots n s x) (let f = ap (spots n s) same in rw f at b))
+    | inr o ↦
+      elim o
+      [ inl less ↦ less
+      | inr more ↦ absurd (before-both (spots n s x) (spots n s y) b (greater-before n s y x e k h (sym l) more))
+      ]
+    ]

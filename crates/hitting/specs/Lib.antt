@@ -2,3 +2,4 @@
 pub mod Masks
 pub mod Post
 pub mod Spots
+pub mod Theorems
