@@ -81,3 +81,35 @@ pub fn next_candidate(clauses: &[u32], among: u32, bits: u32, from: u32) -> Opti
         x = y;
     }
 }
+
+#[cfg(test)]
+mod tests {
+    use super::*;
+    use crate::clauses::union;
+    use std::test::*;
+
+    // The greatest candidate up to `from`, one set after another.
+    fn slowly(clauses: &[u32], among: u32, bits: u32, from: u32) -> Option<u32> {
+        for x in (0..from).rev() {
+            if x & among == x && x.count_ones() == bits && first_missed(clauses, x).is_none() {
+                return Some(x);
+            }
+        }
+        None
+    }
+
+    #[test]
+    fn jumps_find_what_all_sets_give() -> Result<(), Fail> {
+        let table: [&[u32]; 5] = [&[], &[0b000011, 0b001100], &[0b100010, 0b010010, 0b000110], &[0b111000, 0], &[0b100001, 0b010101, 0b001011, 64]];
+        for clauses in table {
+            for among in [0b111111, 0b101101, union(clauses)] {
+                for bits in 0..8 {
+                    for end in 1..70 {
+                        check_eq(next_candidate(clauses, among, bits, end - 1), slowly(clauses, among, bits, end))?;
+                    }
+                }
+            }
+        }
+        Ok(())
+    }
+}
