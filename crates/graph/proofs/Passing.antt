@@ -1,16 +1,16 @@
 -- The pass over the nodes: what holds when it has come to node i, and what that comes to behind the last.
 use mathlib.Core.Path.{_≡_, refl, sym, ap, subst, _∙_}
-use mathlib.Core.Logic.{_⊎_, inl, inr, _≢_}
-use mathlib.Core.List.{List, [], _∷_, _++_}
-use Prim.Native.Nat.{ℕ, zero, suc, _+_, _-_, _<_, _≤_}
+use mathlib.Core.Logic.{inl, inr, _≢_}
+use mathlib.Core.List.{List, _++_}
+use Prim.Native.Nat.{ℕ, suc, _+_, _-_, _<_, _≤_}
 use native.Mathlib.Omega.{arith}
 use lib.ListN.{length, getD, set, take, drop, replicate}
 use Rattle.std.proofs.shelf.Lists.{getD-set-same, getD-set-other, getD-append-left, getD-replicate, length-replicate, length-append, length-take-le, drop-set-lt, drop-at, length-drop, getD-drop, ext-getD}
 use Rattle.std.proofs.shelf.Tests.{cases-lt}
 use Rattle.graph.specs.Rules.{Ahead}
-use Rattle.graph.specs.Walks.{Leads, Walk}
+use Rattle.graph.specs.Walks.{Leads}
 use Rattle.graph.specs.Search.{Marked, Came, Linked, Searched, Begun, Grown}
-use Rattle.graph.proofs.Walked.{walk-push, walk-stays}
+use Rattle.graph.proofs.Walked.{walk-stays}
 use Rattle.graph.proofs.Linking.{links-of, links-walk}
 
 -- the words of the n nodes cleared, and the start marked

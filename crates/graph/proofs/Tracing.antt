@@ -6,7 +6,7 @@ use native.Mathlib.Omega.{arith}
 use lib.ListN.{length, getD, set, take, drop}
 use Rattle.std.proofs.shelf.Lists.{drop-set, take-at, drop-at}
 use Rattle.graph.specs.Walks.{Leads, Walk}
-use Rattle.graph.specs.Search.{Marked, Came, Linked, Links}
+use Rattle.graph.specs.Search.{Came, Links}
 use Rattle.graph.specs.Back.{Traced, Written, TooLong}
 use Rattle.graph.proofs.Linking.{links-of, links-walk}
 

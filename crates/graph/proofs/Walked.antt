@@ -1,10 +1,10 @@
 -- What holds of all walks.
 use mathlib.Core.Path.{_≡_, refl, sym, subst, _∙_}
-use mathlib.Core.Logic.{_⊎_, inl, inr, ⊎-elim}
+use mathlib.Core.Logic.{⊎-elim}
 use mathlib.Core.List.{List, [], _∷_, _++_}
-use Prim.Native.Nat.{ℕ, suc, _<_, _≤_}
+use Prim.Native.Nat.{ℕ, suc, _<_}
 use native.Mathlib.Omega.{arith}
-use Rattle.graph.specs.Walks.{Leads, Walk, Fewer}
+use Rattle.graph.specs.Walks.{Walk, Fewer}
 
 module _ (next : ℕ → ℕ → ℕ) (moves : ℕ) where
   -- one walk after another

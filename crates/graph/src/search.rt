@@ -1,7 +1,7 @@
 // The search: one pass over the nodes, in their order. Since every edge leads ahead, a node's cost is final when the pass
 // comes to it, so that one pass finds the least costs. A cost is kept plus 1, and 0 is "not come to".
 ghost use mathlib.Core.Path.{_≡_};
-ghost use Prim.Native.Nat.{ℕ, suc, _<_, _≤_};
+ghost use Prim.Native.Nat.{suc, _<_, _≤_};
 ghost use lib.ListN.{length, getD, drop};
 ghost use Rattle.graph.specs.Rules.{Ahead};
 ghost use Rattle.graph.specs.Walks.{Leads};

@@ -22,7 +22,8 @@ fn count_links(from: &[u32], to: usize) -> usize
     len
 }
 
-// The first move that leads from `node` to `to`.
+// The first move that leads from `node` to `to`. Where several do, at different costs, it may not be the one that the search
+// counted.
 fn find_move<R: Rule>(rule: &R, moves: usize, node: usize, to: usize) -> usize
     requires may { ⌜ ((m : ℕ) → m < moves → can (now rule) node m) ⌝ }
     requires leads { ⌜ Leads (next (now rule)) moves node to ⌝ }
@@ -57,7 +58,7 @@ fn fill_path<R: Rule>(rule: &R, moves: usize, from: &[u32], to: usize, len: usiz
 }
 
 // Writes the moves of the walk to `to` that a search found into `path`, and says how many they are; `None` where they are
-// more than `path` has words.
+// more than `path` has words. What stands behind them in `path` is as it was.
 pub fn walk_back<R: Rule>(
     rule: &R,
     moves: usize,

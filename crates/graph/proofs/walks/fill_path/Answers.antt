@@ -1,5 +1,5 @@
 use native.Mathlib.Omega.{arith}
-use Rattle.graph.proofs.Tracing.{filled-none, filled-some, filled-more, filled-all, traced-leads, traced-may}
+use Rattle.graph.proofs.Tracing.{filled-some, filled-more, filled-all, traced-leads, traced-may}
 use Rattle.graph.proofs.walks.fill_path.Needs as need
 
 pub find-move-requires : need.find-move-requires
