@@ -22,7 +22,8 @@ fn first_place(shape: Shape, key: &[u32]) -> usize
     (hash(key) >> (64 - shape.bits)) as usize
 }
 
-// The place where the probe for a key ends: it tells the record that is the key, or it is free and there is none.
+// The place where the probe for a key ends: it tells the record that is the key, or it is free and there is none. That
+// there are n records is for the contract alone.
 pub fn find(shape: Shape, queue: &[u32], n: usize, table: &[u32], key: &[u32]) -> usize
     requires probed { ⌜ Probed shape (now queue) (now table) n ⌝ }
     requires room { ⌜ n < shape .room ⌝ }
@@ -87,8 +88,8 @@ fn enter(shape: Shape, queue: &[u32], n: usize, table: &mut [u32])
 {
     let start = n * shape.width;
     let from = first_place(shape, &queue[start..start + shape.width]);
-    let place = free_place(table, from);
-    table[place] = (n + 1) as u32;
+    let at = free_place(table, from);
+    table[at] = (n + 1) as u32;
 }
 
 // Makes the first places free, and leaves the others as they are.
