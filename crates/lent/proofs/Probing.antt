@@ -89,11 +89,11 @@ some-free s q t n a probed room h =
     record { place = homes s + n; behind = omega arith; inside = omega arith; empty = free-behind s q t n probed room }
 
 -- the words of a record that a place tells
-pub told-words : (s : Shape) (q t : List ℕ) (n p : ℕ) → Probed s q t n → p < places s → 0 < getD t p 0 → (getD t p 0 - 1) * s .width + s .width ≤ length q
+pub told-words : (s : Shape) (q t : List ℕ) (n p : ℕ) → Probed s q t n → p < places s → 0 < getD t p 0 → (getD t p 0 - 1 + 1) * s .width ≤ length q
 told-words s q t n p probed h l =
     let e = probed .entries p h in
     let held = probed .held in
-    omega (arith, ends-within (s .width) n (getD t p 0 - 1) (omega arith))
+    omega (arith, more-words (getD t p 0 - 1) (s .width), ends-within (s .width) n (getD t p 0 - 1) (omega arith))
 
 -- a table where all is free
 pub probed-none : (s : Shape) (q t : List ℕ) → places s ≤ length t → ((p : ℕ) → p < places s → getD t p 0 ≡ 0) → Probed s q t 0
