@@ -21,15 +21,6 @@ pub record Looked (s : Shape) (q t : List ℕ) (n : ℕ) (key : List ℕ) (at : 
   pub full : Full t (home s key) at
   pub past : (k : ℕ) → home s key ≤ k → k < at → rec q (s .width) (getD t k 0 - 1) ≡ key → ⊥
 
-pub looked-first : (s : Shape) (q t : List ℕ) (n : ℕ) (key : List ℕ) (at : ℕ) → at ≡ home s key → at < homes s → Looked s q t n key at
-looked-first s q t n key at e h =
-    record {
-      behind = omega arith;
-      within = omega arith;
-      full = λ k a b. absurd (omega arith);
-      past = λ k a b. absurd (omega arith);
-    }
-
 pub full-more : (t : List ℕ) (a b : ℕ) → Full t a b → 0 < getD t b 0 → Full t a (b + 1)
 full-more t a b f h k l m = elim (cases-eq k b) [ inl e ↦ rw e h | inr ne ↦ f k l (omega arith) ]
 
@@ -98,11 +89,11 @@ some-free s q t n a probed room h =
     record { place = homes s + n; behind = omega arith; inside = omega arith; empty = free-behind s q t n probed room }
 
 -- the words of a record that a place tells
-pub told-words : (s : Shape) (q t : List ℕ) (n p : ℕ) → Probed s q t n → p < places s → 0 < getD t p 0 → (getD t p 0 - 1) * s .width + s .width ≤ length q
+pub told-words : (s : Shape) (q t : List ℕ) (n p : ℕ) → Probed s q t n → p < places s → 0 < getD t p 0 → (getD t p 0 - 1 + 1) * s .width ≤ length q
 told-words s q t n p probed h l =
     let e = probed .entries p h in
     let held = probed .held in
-    omega (arith, ends-within (s .width) n (getD t p 0 - 1) (omega arith))
+    omega (arith, more-words (getD t p 0 - 1) (s .width), ends-within (s .width) n (getD t p 0 - 1) (omega arith))
 
 -- a table where all is free
 pub probed-none : (s : Shape) (q t : List ℕ) → places s ≤ length t → ((p : ℕ) → p < places s → getD t p 0 ≡ 0) → Probed s q t 0
@@ -115,6 +106,29 @@ probed-none s q t fits free =
       reach = λ p h l. absurd (omega (arith, free p h));
       placed = λ i h. absurd (omega arith);
     }
+
+-- what leaves the words of the n records leaves the table as it is
+pub probed-kept : (s : Shape) (q q′ t : List ℕ) (n : ℕ) → Probed s q t n → n * s .width ≤ length q′ → take (n * s .width) q′ ≡ take (n * s .width) q → Probed s q′ t n
+probed-kept s q q′ t n probed held kept =
+    record {
+      few = probed .few;
+      held = held;
+      fits = probed .fits;
+      entries = probed .entries;
+      reach = probed .reach;
+      placed = λ i h. placed-kept i h (probed .placed i h);
+    }
+  where
+    placed-kept : (i : ℕ) → i < n → Placed s q t n i → Placed s q′ t n i
+    placed-kept i h p =
+        let start : home s (rec q′ (s .width) i) ≡ home s (rec q (s .width) i) = ap (home s) (rec-kept q q′ (s .width) n i kept h) in
+        record {
+          place = p .place;
+          behind = omega (arith, p .behind);
+          within = p .within;
+          entry = p .entry;
+          full = λ k a b. p .full k (omega arith) b;
+        }
 
 -- one place written
 set-cases : (t : List ℕ) (at v k : ℕ) → at < length t → ((k ≡ at) × (getD (set t at v) k 0 ≡ v)) ⊎ ((k ≢ at) × (getD (set t at v) k 0 ≡ getD t k 0))

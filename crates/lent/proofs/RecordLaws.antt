@@ -1,6 +1,7 @@
 -- Laws of records: what a record is made of, and what leaves it unchanged.
 use mathlib.Core.Path.{_≡_, refl, sym, ap, _∙_}
 use mathlib.Core.List.{List}
+use mathlib.Core.Logic.{inl, inr}
 use Prim.Native.Nat.{ℕ, _+_, _*_, _-_, _<_, _≤_}
 use native.Mathlib.Nat.{add-mul, one-mul}
 use native.Mathlib.Omega.{arith}
@@ -9,7 +10,8 @@ use borrow.Rule.Slice.PartMut.{putMid}
 use Rattle.std.proofs.shelf.Lists.{length-take-le, length-drop, drop-take, take-take, getD-take, getD-drop}
 use Rattle.std.proofs.shelf.Parts.{between-putMid}
 use Rattle.std.proofs.shelf.Bits.{mul-le}
-use Rattle.lent.specs.Records.{rec}
+use Rattle.std.proofs.shelf.Tests.{cases-eq}
+use Rattle.lent.specs.Records.{rec, Apart}
 
 pub rec-is : (q : List ℕ) (w i : ℕ) → rec q w i ≡ take w (drop (i * w) q)
 unfolding rec
@@ -53,3 +55,12 @@ pub rec-put : (q key : List ℕ) (w i : ℕ) → i * w + w ≤ length q → leng
 rec-put q key w i h e =
     sym (rec-part (putMid (i * w) (i * w + w - i * w) q key) w i)
     ∙ between-putMid (i * w) (i * w + w - i * w) q key (i * w + w) (omega arith) (omega arith)
+
+-- one more record, which none of the others was
+pub apart-more : (q q′ : List ℕ) (w n : ℕ) (key : List ℕ) → Apart q w n → take (n * w) q′ ≡ take (n * w) q → rec q′ w n ≡ key → ((i : ℕ) → i < n → rec q w i ≡ key → ⊥) → Apart q′ w (n + 1)
+apart-more q q′ w n key apart kept here new i j l m e =
+    let old = rec-kept q q′ w n in
+    elim (cases-eq j n) [
+      | inl last ↦ new i (omega arith) (sym (old i kept (omega arith)) ∙ e ∙ ap (rec q′ w) last ∙ here)
+      | inr ne ↦ apart i j l (omega arith) (sym (old i kept (omega arith)) ∙ e ∙ old j kept (omega arith))
+    ]

@@ -3,6 +3,8 @@
 ghost use mathlib.Core.Path.{_≡_};
 ghost use Prim.Native.Nat.{ℕ, _+_, _*_, _<_, _≤_};
 ghost use lib.ListN.{length, getD, drop};
+ghost use Rattle.std.specs.Orderings.{Decides};
+ghost use Rattle.lent.specs.Records.{rec};
 ghost use Rattle.lent.specs.Table.{homes, places, home, Probed, Free, Stop, Inserted, SomeFree, FirstFree};
 use crate::hash::hash;
 use crate::shape::Shape;
@@ -22,11 +24,20 @@ fn first_place(shape: Shape, key: &[u32]) -> usize
     (hash(key) >> (64 - shape.bits)) as usize
 }
 
-// The place where the probe for a key ends: it tells the record that is the key, or it is free and there is none.
+// Is record i the key?
+fn is_record(shape: Shape, queue: &[u32], i: usize, key: &[u32]) -> bool
+    requires { ⌜ (i + 1) * shape .width ≤ length (now queue) ⌝ }
+    ensures { λ r. ⌜ Decides r (rec (now (queue .entry)) (shape .width) i ≡ now (key .entry)) ⌝ }
+{
+    let start = i * shape.width;
+    &queue[start..start + shape.width] == key
+}
+
+// The place where the probe for a key ends: it tells the record that is the key, or it is free and there is none. That
+// there are n records is for the contract alone.
 pub fn find(shape: Shape, queue: &[u32], n: usize, table: &[u32], key: &[u32]) -> usize
     requires probed { ⌜ Probed shape (now queue) (now table) n ⌝ }
     requires room { ⌜ n < shape .room ⌝ }
-    requires whole { ⌜ length (now key) ≡ shape .width ⌝ }
     ensures { λ r. ⌜ Stop shape (now (queue .entry)) (now (table .entry)) n (now (key .entry)) r ⌝ }
 {
     let mut at = first_place(shape, key);
@@ -35,8 +46,7 @@ pub fn find(shape: Shape, queue: &[u32], n: usize, table: &[u32], key: &[u32]) -
         if entry == 0 {
             break 'probe at;
         }
-        let start = (entry - 1) * shape.width;
-        if &queue[start..start + shape.width] == key {
+        if is_record(shape, queue, entry - 1, key) {
             break 'probe at;
         }
         at += 1;
@@ -87,8 +97,8 @@ fn enter(shape: Shape, queue: &[u32], n: usize, table: &mut [u32])
 {
     let start = n * shape.width;
     let from = first_place(shape, &queue[start..start + shape.width]);
-    let place = free_place(table, from);
-    table[place] = (n + 1) as u32;
+    let at = free_place(table, from);
+    table[at] = (n + 1) as u32;
 }
 
 // Makes the first places free, and leaves the others as they are.
