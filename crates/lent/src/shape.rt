@@ -11,5 +11,5 @@ pub struct Shape {
     pub room: usize,
     ghost some: { 0 < bits },
     ghost few: { bits ≤ 32 },
-    ghost told: { room < 2 ^ 32 },
+    ghost fits: { room < 2 ^ 63 },
 }

@@ -1,7 +1,7 @@
 // A table that finds records of equal width in lent words again. The records stand one after the other in one part of the
 // lent words, the queue, and the table in another; each is passed as a slice.
 ghost use mathlib.Core.Path.{_≡_};
-ghost use Prim.Native.Nat.{ℕ, _+_, _*_, _<_, _≤_};
+ghost use Prim.Native.Nat.{ℕ, _+_, _*_, _^_, _<_, _≤_};
 ghost use lib.ListN.{length, getD, drop};
 ghost use Rattle.std.specs.Orderings.{Decides};
 ghost use Rattle.lent.specs.Records.{rec};
@@ -65,6 +65,7 @@ pub fn insert(
 )
     requires probed { ⌜ Probed shape (now queue) (now table) n ⌝ }
     requires room { ⌜ n < shape .room ⌝ }
+    requires told { ⌜ n + 1 < 2 ^ 32 ⌝ }
     requires ends { ⌜ (n + 1) * shape .width ≤ length (now queue) ⌝ }
     requires whole { ⌜ length (now key) ≡ shape .width ⌝ }
     requires free { ⌜ Free shape (now queue) (now table) n (now key) place ⌝ }
@@ -91,6 +92,7 @@ fn free_place(table: &[u32], from: usize) -> usize
 fn enter(shape: Shape, queue: &[u32], n: usize, table: &mut [u32])
     requires probed { ⌜ Probed shape (now queue) (now table) n ⌝ }
     requires room { ⌜ n < shape .room ⌝ }
+    requires told { ⌜ n + 1 < 2 ^ 32 ⌝ }
     requires ends { ⌜ (n + 1) * shape .width ≤ length (now queue) ⌝ }
     ensures probed { λ _. ⌜ Probed shape (now (queue .entry)) (now (table .exit)) (n + 1) ⌝ }
     ensures rest { λ _. ⌜ drop (places shape) (now (table .exit)) ≡ drop (places shape) (now (table .entry)) ⌝ }
@@ -115,6 +117,7 @@ fn clear(table: &mut [u32], count: usize)
 // Makes the table anew for the first n records: at the start, and when it is to grow.
 pub fn rebuild(shape: Shape, queue: &[u32], n: usize, table: &mut [u32])
     requires few { ⌜ n ≤ shape .room ⌝ }
+    requires told { ⌜ n < 2 ^ 32 ⌝ }
     requires held { ⌜ n * shape .width ≤ length (now queue) ⌝ }
     requires fits { ⌜ places shape ≤ length (now table) ⌝ }
     ensures probed { λ _. ⌜ Probed shape (now (queue .entry)) (now (table .exit)) n ⌝ }

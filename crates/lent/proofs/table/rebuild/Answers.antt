@@ -7,5 +7,6 @@ enter-requires c κs =
     record {
       probed = c .loop-i .inv .0;
       room = omega arith;
+      told = omega arith;
       ends = omega (arith, more-words (c .loop-i .i) (c .args .shape .width), ends-within (c .args .shape .width) (c .args .n) (c .loop-i .i) (c .loop-i-test .taken));
     }
