@@ -61,3 +61,16 @@ Packs-at w v x a = Within-at a × (pack-at a ≡ w ∷ v ∷ x ∷ [])
 -- the words are the state s
 abbrev pub Packs : List ℕ → St → Type 0
 Packs ws s = Within s × (pack s ≡ ws)
+
+-- so many threads from their words
+abbrev pub unpack-ts : ℕ → List ℕ → List At
+unpack-ts zero ws = []
+unpack-ts (suc n) [] = []
+unpack-ts (suc n) (w ∷ []) = []
+unpack-ts (suc n) (w ∷ v ∷ []) = []
+unpack-ts (suc n) (w ∷ v ∷ x ∷ ws) = unpack-at w v x ∷ unpack-ts n ws
+
+-- the state of so many threads that the words are
+unfoldable pub unpack : ℕ → List ℕ → St
+unpack n [] = record { mem = nibbles 8 0; threads = [] }
+unpack n (m ∷ ws) = record { mem = nibbles 8 m; threads = unpack-ts n ws }

@@ -1,0 +1,32 @@
+-- What the steps of exploration promise.
+use mathlib.Core.Path.{_≡_}
+use mathlib.Core.List.{List}
+use Prim.Native.Nat.{ℕ, suc, _+_, _*_, _<_, _≤_}
+use lib.ListN.{length, getD, take, drop, set}
+use Rattle.std.specs.declared.option.Option.{Option}
+use Rattle.std.specs.declared.option.Option.the-variants.{Some, None}
+use Rattle.lent.specs.declared.shape.Shape.{Shape}
+use Rattle.lent.specs.Records.{rec}
+use Rattle.lent.specs.Table.{Probed}
+use Rattle.model.specs.Code.{Prog}
+use Rattle.explore.specs.Found.{width, moves-of, state, Edge, Found, Explored, Crowded}
+
+-- a record looked for among the first n, and written behind them if it is new and there is room: it is record j now
+pub record Entered (s : Shape) (limit : ℕ) (q t : List ℕ) (n : ℕ) (key q′ t′ : List ℕ) (j n′ : ℕ) : Type 0 where
+  pub probed : Probed s q′ t′ n′
+  pub here : rec q′ (s .width) j ≡ key
+  pub below : j < n′
+  pub kept : take (n * s .width) q′ ≡ take (n * s .width) q
+  pub grown : n ≤ n′
+  pub by-one : n′ ≤ n + 1
+  pub few : n′ ≤ limit
+  pub new : (i : ℕ) → i < n → n < n′ → rec q (s .width) i ≡ key → ⊥
+  pub last : n < n′ → j ≡ n
+-- or it is new, and all is full
+pub record Refused (s : Shape) (limit : ℕ) (q : List ℕ) (n : ℕ) (key : List ℕ) : Type 0 where
+  pub full : n ≡ limit
+  pub new : (i : ℕ) → i < n → rec q (s .width) i ≡ key → ⊥
+
+abbrev pub EnteredAs : Shape → ℕ → List ℕ → List ℕ → ℕ → List ℕ → List ℕ → List ℕ → Option (ℕ × ℕ) → Type 0
+EnteredAs s limit q t n key q′ t′ (Some r) = Entered s limit q t n key q′ t′ (r .0) (r .1)
+EnteredAs s limit q t n key q′ t′ None = Refused s limit q n key
