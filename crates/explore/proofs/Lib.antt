@@ -1,0 +1,2 @@
+-- Lemmas on exploration.
+pub mod MoveNumbers
