@@ -39,6 +39,14 @@ pub record Found (p : Prog) (q : List ℕ) (n : ℕ) : Type 0 where
   pub come : (i : ℕ) → i < n → (ms : List Move) × (moves p (begin p) ms ≡ some (state (length p) q i))
   pub apart : (i j : ℕ) → i < n → j < n → state (length p) q i ≡ state (length p) q j → i ≡ j
 
+-- in the order of how many moves runs take to them
+abbrev pub Sorted : Prog → List ℕ → ℕ → Type 0
+Sorted p q n = (i j : ℕ) (ms ns : List Move) → i ≤ j → j < n → moves p (begin p) ms ≡ some (state (length p) q i) → moves p (begin p) ns ≡ some (state (length p) q j) → length ms ≤ length ns
+
+-- and none is more than one move beyond state i
+abbrev pub Near : Prog → List ℕ → ℕ → ℕ → Type 0
+Near p q n i = (j : ℕ) (ms ns : List Move) → j < n → moves p (begin p) ms ≡ some (state (length p) q i) → moves p (begin p) ns ≡ some (state (length p) q j) → length ns ≤ suc (length ms)
+
 -- all states are found, with all edges: each leads ahead, to a state with a greater number
 pub record Explored (p : Prog) (q g : List ℕ) (n : ℕ) : Type 0 where
   pub found : Found p q n
