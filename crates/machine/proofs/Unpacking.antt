@@ -63,6 +63,7 @@ starts-words (t ∷ ts) =
 pub start-packs : (p : Prog) → Packs (replicate (1 + 3 * length p) 0) (begin p)
 unfolding pack
 start-packs p =
-    let e : 1 + 3 * length p ≡ suc (3 * length p) = omega arith in
-    ( record { eight = refl; mem = zeros-below 16 8 (omega arith); each = within-starts p }
-    , ap (λ n. n ∷ pack-ts (starts p)) (zeros 8) ∙ ap (λ r. 0 ∷ r) (starts-words p) ∙ sym (ap (λ k. replicate k 0) e) )
+    let e : 1 + 3 * length p ≡ suc (3 * length p) = omega arith in (
+      record { eight = refl; mem = zeros-below 16 8 (omega arith); each = within-starts p },
+      ap (λ n. n ∷ pack-ts (starts p)) (zeros 8) ∙ ap (λ r. 0 ∷ r) (starts-words p) ∙ sym (ap (λ k. replicate k 0) e),
+    )
