@@ -1,3 +1,4 @@
 -- Lemmas on exploration.
 pub mod MoveNumbers
 pub mod Finding
+pub mod Edges
