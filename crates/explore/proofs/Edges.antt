@@ -42,7 +42,7 @@ same-edge i j m l w h k e =
     ( sym (div-mul-add i w m h) ∙ ap (λ x. x / w) e ∙ div-mul-add j w l k
     , sym (mod-mul-add i w m h) ∙ ap (λ x. x % w) e ∙ mod-mul-add j w l k )
 
-earlier-node : (k l i m w : ℕ) → m < w → k * w + l < i * w + m → k ≤ i
+pub earlier-node : (k l i m w : ℕ) → m < w → k * w + l < i * w + m → k ≤ i
 earlier-node k l i m w h b =
     elim (cases-lt i k) [ inl g ↦ let a = mul-le-mul-right w g in let e = suc-times i w in absurd (omega arith) | inr g ↦ g ]
   where

@@ -2,3 +2,4 @@
 pub mod MoveNumbers
 pub mod Finding
 pub mod Edges
+pub mod Turns
