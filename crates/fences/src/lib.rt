@@ -1,0 +1,2 @@
+// The public calls: all outcomes of a program, and the fewest fences for it.
+pub mod sizes;
