@@ -1,1 +1,3 @@
 -- Lemmas on the public calls.
+pub mod Sharing
+pub mod AllOutcomes

@@ -1,2 +1,4 @@
 -- What the public calls promise.
 pub mod Sizes
+pub mod Listing
+pub mod Says

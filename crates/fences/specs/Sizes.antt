@@ -8,4 +8,6 @@ use Rattle.explore.specs.Found.{width, moves-of}
 pub record Shares (n words limit : ℕ) : Type 0 where
   pub some-fit : 0 < limit
   pub told : limit < 2 ^ 32
+  -- no fewer than may be asked for with so many words
+  pub most : (m : ℕ) → m < 2 ^ 32 → 65536 + 128 * (m + 1) ≤ words → m ≤ limit
   pub fits : width n + limit * width n + limit * moves-of n + (3 * limit + 8192) ≤ words + 16
