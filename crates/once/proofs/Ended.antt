@@ -6,10 +6,17 @@ use mathlib.Core.List.{List, [], _∷_}
 use mathlib.Core.Option.{some}
 use Prim.Native.Nat.{ℕ, zero, suc, _+_, _*_, _/_, _%_, _<_, _≤_}
 use native.Mathlib.Omega.{arith}
+use lib.Bits.{bitAnd}
 use lib.ListN.{length, getD}
+use Rattle.std.proofs.shelf.Bits.{and-mask}
 use Rattle.model.specs.Code.{nth, Thread, Prog}
 use Rattle.model.specs.Machine.{Wait, At, St, all-done}
 use Rattle.model.proofs.Tools.{some-is, nth-below, Ended, done-at, at-done}
+use Rattle.program.specs.declared.threads.Thread as code
+use Rattle.program.specs.declared.threads.Program.{Program}
+use Rattle.program.specs.Meaning.{thread, program}
+use Rattle.program.proofs.ReadProgram.{length-thread}
+use Rattle.program.proofs.Lookup.{nth-front}
 use Rattle.machine.specs.Packed.{Packs}
 use Rattle.machine.proofs.PackLaws.{word-parts}
 use Rattle.machine.proofs.StateLaws.{length-pack, thread-at}
@@ -51,7 +58,7 @@ module _ (p : Prog) (ws : List ℕ) (long : length ws ≡ width (length p)) (n :
         ]
 
   pub not-done : (Word-done ws n c → ⊥) → (s : St) → Packs ws s → false ≡ all-done p (s .threads)
-  not-done no s h = go (all-done p (s .threads)) refl
+  not-done never s h = go (all-done p (s .threads)) refl
     where
       go : (b : Bool) → all-done p (s .threads) ≡ b → false ≡ all-done p (s .threads)
       go false q = sym q
@@ -59,7 +66,17 @@ module _ (p : Prog) (ws : List ℕ) (long : length ws ≡ width (length p)) (n :
           let (a, e, end) = done-at p (s .threads) n q code in
           let (b, f, pc, row) = thread-then s h in
           let same : b ≡ a = some-is (sym f ∙ e) in
-          absurd (no (pc ∙ ap (λ (z : At). z .pc) same ∙ end .0, row ∙ ap (λ (z : At). length (z .waits)) same ∙ ap length (end .1)))
+          absurd (never (pc ∙ ap (λ (z : At). z .pc) same ∙ end .0, row ∙ ap (λ (z : At). length (z .waits)) same ∙ ap length (end .1)))
 
 pub done-all : (p : Prog) (ws : List ℕ) (n : ℕ) → length p ≤ n → Done-before p ws n → (s : St) → Packs ws s → true ≡ all-done p (s .threads)
 done-all p ws n h d s k = sym (at-done p (s .threads) (λ i c e. let b = nth-below p i e in d s k i c (omega arith) e))
+
+-- thread n of the code; and its test of which instruction is next, by the first word w
+pub code-at : (p : Program) (n : ℕ) (d : code.Thread) → n < p .count → nth (program p) n ≡ some (thread (getD (p .threads) n d))
+code-at p n d h = let f = p .four in let g = p .few in nth-front thread (p .threads) (p .count) n d h (omega arith)
+
+pub tested-at : (t : code.Thread) (w : ℕ) → bitAnd (w / 65536) 15 ≡ t .len → w / 65536 % 16 ≡ length (thread t)
+tested-at t w e = sym (and-mask (w / 65536) 4) ∙ e ∙ sym (length-thread t)
+
+pub at-tested : (t : code.Thread) (w : ℕ) → w / 65536 % 16 ≡ length (thread t) → bitAnd (w / 65536) 15 ≡ t .len
+at-tested t w e = and-mask (w / 65536) 4 ∙ e ∙ length-thread t
