@@ -17,30 +17,16 @@ use Rattle.model.specs.Outcomes.{Waiting, At-once}
 use Rattle.model.proofs.OneEnd.{one-end}
 use Rattle.model.proofs.AlsoWaiting.{all-moves}
 use Rattle.explore.specs.Found.{state, Found, Explored}
+use Rattle.once.specs.Once.{Marks-once}
+use Rattle.fences.specs.Rows.{once-bit, row-of, done-at, rows-from}
 use Rattle.fences.specs.Listing.{Row, text, Right, Every, Some-row, Once-each, Lists}
-
--- every state found is marked exactly if it is come to at once
-abbrev pub Marks : Prog → List ℕ → ℕ → List ℕ → Type 0
-Marks p q n cost = (i : ℕ) → i < n → (Marked cost i ↔ ((ns : List ℕ) × (all-at-once p (begin p) ns ≡ some (state (length p) q i))))
-
--- the row of a state
-abbrev pub once-bit : List ℕ → ℕ → ℕ
-once-bit cost i = pick (ltb 0 (getD cost i 0)) 1 0
-abbrev pub row-of : Prog → List ℕ → List ℕ → ℕ → Row
-row-of p q cost i = record { once = once-bit cost i; outcome = outcome (state (length p) q i) }
-abbrev pub done-at : Prog → List ℕ → ℕ → Bool
-done-at p q i = all-done p (state (length p) q i .threads)
--- the rows of k states from i on, the finished ones among them
-abbrev pub rows-from : Prog → List ℕ → List ℕ → ℕ → ℕ → List Row
-rows-from p q cost i zero = []
-rows-from p q cost i (suc k) = pick (done-at p q i) (row-of p q cost i ∷ rows-from p q cost (suc i) k) (rows-from p q cost (suc i) k)
 
 -- to show it of the rows, show it where the first state is finished and where it is not
 by-first : (P : List Row → Type 0) (b : Bool) (r : Row) (rs : List Row) → (b ≡ true → P (r ∷ rs)) → P rs → P (pick b (r ∷ rs) rs)
 by-first P true r rs f g = f refl
 by-first P false r rs f g = g
 
-module _ (p : Prog) (q g cost : List ℕ) (n : ℕ) (ex : Explored p q g n) (marks : Marks p q n cost) where
+module _ (p : Prog) (q g cost : List ℕ) (n : ℕ) (ex : Explored p q g n) (marks : Marks-once p q n cost) where
   -- two finished states with one outcome are one
   same-state : (i j : ℕ) → i < n → j < n → done-at p q i ≡ true → done-at p q j ≡ true → outcome (state (length p) q i) ≡ outcome (state (length p) q j) → i ≡ j
   same-state i j hi hj di dj e =
