@@ -1,0 +1,56 @@
+-- The listings that are read back as they were printed.
+use mathlib.Core.Path.{_≡_}
+use mathlib.Core.Bool.{Bool, true, false, _&&_, not}
+use mathlib.Core.List.{List, [], _∷_, _++_}
+use mathlib.Core.Option.{Option, some, none}
+use Prim.Native.Nat.{ℕ, zero, suc, _≤_}
+use lib.Dec.{T, eqb, ltb}
+use lib.ListN.{length}
+use Rattle.model.specs.Code.{pick, opt, nth, I, sets, adds, loads, stores, fence, Thread, Prog, ok}
+use Rattle.text.specs.Bytes.{Word, digit, all, word, has}
+use Rattle.text.specs.Grammar.{Listing, reads}
+use Rattle.text.specs.Shows.{height, shows}
+
+-- each a word, and each once
+abbrev pub apart : List Word → Bool
+apart [] = true
+apart (w ∷ ws) = word w && (not (has w ws) && apart ws)
+-- no numeral
+abbrev pub no-numerals : List Word → Bool
+no-numerals [] = true
+no-numerals (w ∷ ws) = not (all digit w) && no-numerals ws
+-- of n places seen, and then those of an instruction: how many are seen then; none where one is passed over
+abbrev pub see : ℕ → ℕ → Option ℕ
+see n x = pick (ltb x n) (some n) (pick (eqb x n) (some (suc n)) none)
+abbrev pub seen-i : ℕ → I → Option ℕ
+seen-i n (sets r m) = some n
+seen-i n (adds r a b) = some n
+seen-i n (loads r x) = see n x
+seen-i n (stores x r) = see n x
+seen-i n fence = some n
+-- the same for the j-th instruction of each thread, from left to right
+abbrev pub seen-row : ℕ → ℕ → Prog → Option ℕ
+seen-row j n [] = some n
+seen-row j n (t ∷ ts) = opt (opt (nth t j) (some n) (seen-i n)) none (λ n. seen-row j n ts)
+-- the same for h rows from row j on
+abbrev pub seen-rows : Prog → ℕ → ℕ → ℕ → Option ℕ
+seen-rows p j n zero = some n
+seen-rows p j n (suc h) = opt (seen-row j n p) none (λ n. seen-rows p (suc j) n h)
+-- the places are named by words in the order in which they first come, line by line and from left to right
+pub record Ordered (ns : List Word) (p : Prog) : Type 0 where
+  pub words : T (apart ns)
+  pub no-numeral : T (no-numerals ns)
+  pub few : length ns ≤ 8
+  pub order : seen-rows p 0 0 (height p) ≡ some (length ns)
+-- places are numerals, or words in their order
+abbrev pub Named : List Word → Prog → Type 0
+Named [] p = Unit {0}
+Named (n ∷ ns) p = Ordered (n ∷ ns) p
+pub record Fine (l : Listing) : Type 0 where
+  pub within : T (ok (l .code))
+  pub names : T (apart (l .names))
+  pub each : length (l .names) ≡ length (l .code)
+  pub places : Named (l .places) (l .code)
+-- what is printed of a fine listing is read back as that listing
+abbrev pub Round-trip : Type 0
+Round-trip = (l : Listing) → Fine l → reads (shows l) ≡ some l
