@@ -1,0 +1,4 @@
+-- Lemmas on words and programs.
+pub mod Rows
+pub mod ReadThread
+pub mod ReadProgram
