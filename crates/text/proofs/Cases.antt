@@ -26,9 +26,10 @@ col-bas =
 read-col-bas : Listing
 read-col-bas =
     record {
-      names = codes "up" ∷ codes "down" ∷ [];
+      columns =
+        record { name = codes "up"; code = sets 0 1 ∷ stores 0 0 ∷ loads 1 1 ∷ [] } ∷
+        record { name = codes "down"; code = sets 0 1 ∷ stores 1 0 ∷ loads 1 0 ∷ [] } ∷ [];
       places = codes "a" ∷ codes "b" ∷ [];
-      code = (sets 0 1 ∷ stores 0 0 ∷ loads 1 1 ∷ []) ∷ (sets 0 1 ∷ stores 1 0 ∷ loads 1 0 ∷ []) ∷ [];
     }
 col-bas-is-read : reads col-bas ≡ some read-col-bas
 unfolding col-bas read-col-bas ln

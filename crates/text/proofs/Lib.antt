@@ -1,1 +1,5 @@
+-- The round trip, and what the functions' proofs share.
 pub mod Cases
+pub mod Picks
+pub mod Runs
+pub mod Scanning

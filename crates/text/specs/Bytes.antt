@@ -4,6 +4,7 @@ use mathlib.Core.List.{List, [], _∷_, _++_}
 use mathlib.Core.Option.{Option, some, none}
 use Prim.Native.Nat.{ℕ, zero, suc}
 use lib.Dec.{eqb, leb}
+use lib.ListN.{take}
 use Rattle.model.specs.Code.{pick, opt}
 
 abbrev pub Word : Type 0
@@ -57,10 +58,16 @@ cut false b (p ∷ ps) = (b ∷ p) ∷ ps
 abbrev pub pieces : ℕ → List ℕ → List (List ℕ)
 pieces s [] = [] ∷ []
 pieces s (b ∷ bs) = cut (eqb b s) b (pieces s bs)
+-- any byte but s
+abbrev pub but : ℕ → ℕ → Bool
+but s b = not (eqb b s)
+-- how many bytes at the front pass the test
+abbrev pub run : (ℕ → Bool) → List ℕ → ℕ
+run f [] = 0
+run f (b ∷ bs) = pick (f b) (suc (run f bs)) 0
 -- what stands before the first s
 abbrev pub before : ℕ → List ℕ → List ℕ
-before s [] = []
-before s (b ∷ bs) = pick (eqb b s) [] (b ∷ before s bs)
+before s bs = take (run (but s) bs) bs
 -- a line without the CR that it may end in
 abbrev pub no-cr : List ℕ → List ℕ
 no-cr [] = []

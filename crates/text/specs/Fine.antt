@@ -8,7 +8,7 @@ use lib.Dec.{T, eqb, ltb}
 use lib.ListN.{length}
 use Rattle.model.specs.Code.{pick, opt, nth, I, sets, adds, loads, stores, fence, Thread, Prog, ok}
 use Rattle.text.specs.Bytes.{Word, digit, all, word, has}
-use Rattle.text.specs.Grammar.{Listing, reads}
+use Rattle.text.specs.Grammar.{names, Listing, program, reads}
 use Rattle.text.specs.Shows.{height, shows}
 
 -- each a word, and each once
@@ -47,10 +47,9 @@ abbrev pub Named : List Word → Prog → Type 0
 Named [] p = Unit {0}
 Named (n ∷ ns) p = Ordered (n ∷ ns) p
 pub record Fine (l : Listing) : Type 0 where
-  pub within : T (ok (l .code))
-  pub names : T (apart (l .names))
-  pub each : length (l .names) ≡ length (l .code)
-  pub places : Named (l .places) (l .code)
+  pub within : T (ok (program l))
+  pub names : T (apart (names (l .columns)))
+  pub places : Named (l .places) (program l)
 -- what is printed of a fine listing is read back as that listing
 abbrev pub Round-trip : Type 0
 Round-trip = (l : Listing) → Fine l → reads (shows l) ≡ some l

@@ -3,32 +3,37 @@
 -- bottom their instructions. Reading goes line by line, and in a line from left to right, with a page of what has
 -- been read so far.
 use mathlib.Core.Bool.{Bool, true, false, _&&_, not}
-use mathlib.Core.List.{List, [], _∷_, _++_}
+use mathlib.Core.List.{List, [], _∷_, _++_, map}
 use mathlib.Core.Option.{Option, some, none}
 use Prim.Native.Nat.{ℕ, zero, suc, _-_}
 use lib.Chars.{codes}
 use lib.Dec.{eqb, leb, ltb}
-use lib.ListN.{length, getD}
-use Rattle.model.specs.Code.{pick, opt, I, sets, adds, loads, stores, fence, Thread, Prog}
+use lib.ListN.{length}
+use Rattle.model.specs.Code.{pick, opt, nth, put, I, sets, adds, loads, stores, fence, Thread, Prog}
 use Rattle.text.specs.Bytes.{Word, within, digit, blank, plain, all, empty, word, same, index-of, has, pieces, before, no-cr, tokens}
 
--- a program with its names: its threads' names, the words that its places are named by, in the places' order (none
--- where the places are numerals), and its threads
+-- a thread with its name
+pub record Column : Type 0 where
+  pub name : Word
+  pub code : Thread
+abbrev pub names : List Column → List Word
+names cs = map (λ (c : Column). c .name) cs
+-- a program with its names: its threads, and the words that its places are named by, in the places' order (no words
+-- where the places are numerals)
 pub record Listing : Type 0 where
-  pub names : List Word
+  pub columns : List Column
   pub places : List Word
-  pub code : Prog
+abbrev pub program : Listing → Prog
+program l = map (λ (c : Column). c .code) (l .columns)
 
 -- how places are named so far: by numerals, or by words, of which these have come
 pub record Places : Type 0 where
   pub numerals : Bool
   pub words : List Word
-
--- what has been read so far; no names where the first line has not come yet
+-- what has been read so far; no columns where the first line has not come yet
 pub record Page : Type 0 where
-  pub names : List Word
+  pub columns : List Column
   pub places : Places
-  pub code : Prog
 
 -- r0 to r3
 abbrev pub register : Word → Option ℕ
@@ -85,22 +90,20 @@ instruction ps (a ∷ b ∷ c ∷ d ∷ e ∷ []) =
     (pick (same a (codes "[") && (same c (codes "]") && same d (codes "="))) (store ps b e) none))
 instruction ps (a ∷ b ∷ c ∷ d ∷ e ∷ f ∷ ts) = none
 
--- the threads with i behind the k-th
-abbrev pub add : ℕ → I → Prog → Prog
-add k i [] = []
-add zero i (t ∷ ts) = (t ++ i ∷ []) ∷ ts
-add (suc k) i (t ∷ ts) = t ∷ add k i ts
--- the tokens of a cell of thread k: no tokens say nothing; any others are an instruction, of at most eight
-abbrev pub does : ℕ → Page → List Word → Option Page
-does k s [] = some s
-does k s (t ∷ ts) =
-    pick (ltb (length (getD (s .code) k [])) 8)
-    (opt (instruction (s .places) (t ∷ ts)) none (λ q. some (record { names = s .names; places = q .0; code = add k (q .1) (s .code) })))
-    none
--- a cell of thread k, if there is a thread k
+-- i behind the others
+abbrev pub longer : Column → I → Column
+longer c i = record { name = c .name; code = c .code ++ i ∷ [] }
+-- a cell of the column c with these tokens: none say nothing, others are an instruction, of at most eight
+abbrev pub does : Places → Column → List Word → Option (Places × Column)
+does ps c [] = some (ps, c)
+does ps c (t ∷ ts) =
+    pick (ltb (length (c .code)) 8) (opt (instruction ps (t ∷ ts)) none (λ q. some (q .0, longer c (q .1)))) none
+-- a cell of column k, if there is one
 abbrev pub cell : ℕ → Page → List ℕ → Option Page
-cell k s c = pick (ltb k (length (s .names))) (opt (tokens c) none (does k s)) none
--- the cells of a line from thread k on
+cell k s bs =
+    opt (nth (s .columns) k) none (λ c. opt (tokens bs) none (λ ts. opt (does (s .places) c ts) none (λ q.
+    some (record { columns = put (s .columns) k (q .1); places = q .0 }))))
+-- the cells of a line from column k on
 abbrev pub row : ℕ → Page → List (List ℕ) → Option Page
 row k s [] = some s
 row k s (c ∷ cs) = opt (cell k s c) none (λ s. row (suc k) s cs)
@@ -109,16 +112,16 @@ abbrev pub name : List Word → List Word → Option Word
 name ns [] = none
 name ns (w ∷ []) = pick (word w && (not (has w ns) && ltb (length ns) 4)) (some w) none
 name ns (w ∷ v ∷ ws) = none
--- one thread more
+-- one column more
 abbrev pub begin : Page → Word → Page
-begin s w = record { names = s .names ++ w ∷ []; places = s .places; code = s .code ++ [] ∷ [] }
+begin s w = record { columns = s .columns ++ record { name = w; code = [] } ∷ []; places = s .places }
 -- the cells of the line that names the threads
 abbrev pub heading : Page → List (List ℕ) → Option Page
 heading s [] = some s
-heading s (c ∷ cs) = opt (tokens c) none (λ ts. opt (name (s .names) ts) none (λ w. heading (begin s w) cs))
+heading s (c ∷ cs) = opt (tokens c) none (λ ts. opt (name (names (s .columns)) ts) none (λ w. heading (begin s w) cs))
 -- what stands in a line before a comment
 abbrev pub content : Page → List ℕ → Option Page
-content s c = pick (all blank c) (some s) (pick (empty (s .names)) (heading s (pieces 124 c)) (row 0 s (pieces 124 c)))
+content s c = pick (all blank c) (some s) (pick (empty (s .columns)) (heading s (pieces 124 c)) (row 0 s (pieces 124 c)))
 -- a line: text throughout; `#` begins a comment
 abbrev pub line : Page → List ℕ → Option Page
 line s l = pick (all plain (no-cr l)) (content s (before 35 (no-cr l))) none
@@ -126,10 +129,10 @@ abbrev pub lines : Page → List (List ℕ) → Option Page
 lines s [] = some s
 lines s (l ∷ ls) = opt (line s l) none (λ s. lines s ls)
 abbrev pub blank-page : Page
-blank-page = record { names = []; places = record { numerals = false; words = [] }; code = [] }
+blank-page = record { columns = []; places = record { numerals = false; words = [] } }
 -- a page is whole once the threads are named
 abbrev pub whole : Page → Option Listing
-whole s = pick (empty (s .names)) none (some (record { names = s .names; places = s .places .words; code = s .code }))
+whole s = pick (empty (s .columns)) none (some (record { columns = s .columns; places = s .places .words }))
 -- the listing that a text says; none where it is refused
 abbrev pub reads : List ℕ → Option Listing
 reads text = opt (lines blank-page (pieces 10 text)) none whole

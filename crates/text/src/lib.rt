@@ -1,4 +1,6 @@
 // The readable form of programs: columns, one to a thread.
-pub fn nothing() -> u8 {
-    0
-}
+pub mod bytes;
+pub mod faults;
+pub mod naming;
+pub mod places;
+pub mod tokens;
