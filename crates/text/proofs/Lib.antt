@@ -2,4 +2,6 @@
 pub mod Cases
 pub mod Picks
 pub mod Runs
+pub mod Lookup
+pub mod PlaceNames
 pub mod Scanning

@@ -54,7 +54,7 @@ numeral (b ∷ []) = pick (within 48 55 b) (some (b - 48)) none
 numeral (b ∷ c ∷ w) = none
 -- a place by its numeral, unless places are named by words
 abbrev pub by-numeral : Places → Word → Option (Places × ℕ)
-by-numeral ps w = pick (empty (ps .words)) (opt (numeral w) none (λ x. some (record { numerals = true; words = [] }, x))) none
+by-numeral ps w = pick (empty (ps .words)) (opt (numeral w) none (λ x. some (record { numerals = true; words = ps .words }, x))) none
 -- a place by its word, unless places are named by numerals: the one of that name, else the next, of eight
 abbrev pub by-word : Places → Word → Option (Places × ℕ)
 by-word ps w =

@@ -8,7 +8,7 @@ ghost use Rattle.std.specs.Of.Vec.{vec-items};
 ghost use Rattle.std.specs.Options.{Cases as BySome};
 ghost use Rattle.text.specs.Answers.{Answers};
 ghost use Rattle.text.specs.Bytes.{index-of, word};
-ghost use Rattle.text.specs.Grammar.{place, by-numeral, by-word};
+ghost use Rattle.text.specs.Grammar.{numeral, place, by-numeral, by-word};
 ghost use Rattle.text.specs.Meaning.{words, places, option};
 use crate::bytes::Kind;
 use crate::faults::Expected;
@@ -33,6 +33,16 @@ fn index_of(all: &[String], word: &[u8]) -> Option<usize>
     None
 }
 
+// 0 to 7.
+fn numeral(word: &[u8]) -> Option<u32>
+    ensures { λ r. ⌜ option r ≡ numeral (now (word .entry)) ⌝ }
+{
+    match word {
+        [b @ b'0'..=b'7'] => Some(u32::from(*b - b'0')),
+        _ => None,
+    }
+}
+
 impl Places {
     // The place of a name: of a numeral the place itself, of a word its number, which is the next one where the word
     // is new.
@@ -55,11 +65,11 @@ impl Places {
         if !self.words.is_empty() {
             return Err(spot.fault(heap, Expected::PlaceWord, name));
         }
-        let [digit @ b'0'..=b'7'] = name else {
+        let Some(x) = numeral(name) else {
             return Err(spot.fault(heap, Expected::Numeral, name));
         };
         self.numerals = true;
-        Ok(Place(u32::from(*digit - b'0')))
+        Ok(Place(x))
     }
     fn by_word(&mut self, heap: Global, name: &[u8], spot: Spot) -> Result<Place, Fault>
         requires { ⌜ word (now name) ≡ true ⌝ }
