@@ -2,6 +2,8 @@
 pub mod Cases
 pub mod Picks
 pub mod Runs
+pub mod Few
+pub mod Forms
 pub mod Lookup
 pub mod PlaceNames
 pub mod Scanning

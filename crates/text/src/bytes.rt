@@ -1,6 +1,6 @@
 // Bytes by their kinds, and how far a run of one kind goes.
 ghost use mathlib.Core.Path.{_≡_};
-ghost use Rattle.text.specs.Bytes.{run, all};
+ghost use Rattle.text.specs.Bytes.{run, all, same};
 ghost use Rattle.text.specs.Kinds.{test};
 
 #[derive(Clone, Copy)]
@@ -50,4 +50,11 @@ impl Kind {
     {
         self.run(bytes) == bytes.len()
     }
+}
+
+// Whether these are the same bytes.
+pub fn same(a: &[u8], b: &[u8]) -> bool
+    ensures { λ r. ⌜ r ≡ same (now (a .entry)) (now (b .entry)) ⌝ }
+{
+    a == b
 }

@@ -23,6 +23,11 @@ pub enum Expected {
     ThreadCount,
     EightInstructions,
     Instruction,
+    Assign,
+    Right,
+    Plus,
+    Close,
+    CellEnd,
     Register,
     Number,
     Place,
@@ -83,9 +88,9 @@ impl Spot {
     }
 }
 
-impl fmt::Display for Expected as ExpectedDisplay {
-    fn fmt<W: fmt::Write>(&self, f: &mut fmt::Formatter<W>) -> fmt::Result {
-        f.write_str(match self {
+impl Expected {
+    fn words(self) -> &'static str {
+        match self {
             Expected::Text => "text",
             Expected::ThreadName => "the name of a thread",
             Expected::NewThreadName => "the name of another thread",
@@ -93,13 +98,24 @@ impl fmt::Display for Expected as ExpectedDisplay {
             Expected::ThreadCount => "no more cells than threads",
             Expected::EightInstructions => "at most eight instructions in a thread",
             Expected::Instruction => "`r1 = 7`, `r1 = r2 + r3`, `r1 = [place]`, `[place] = r1` or `fence`",
+            Expected::Assign => "`=`",
+            Expected::Right => "a number, a register or `[`",
+            Expected::Plus => "`+` or the end of the cell",
+            Expected::Close => "`]`",
+            Expected::CellEnd => "the end of the cell",
             Expected::Register => "a register r0 to r3",
             Expected::Number => "a number 0 to 15",
             Expected::Place => "a place",
             Expected::Numeral => "a place 0 to 7",
             Expected::PlaceWord => "a place named by a word",
             Expected::EightPlaces => "at most eight places",
-        })
+        }
+    }
+}
+
+impl fmt::Display for Expected as ExpectedDisplay {
+    fn fmt<W: fmt::Write>(&self, f: &mut fmt::Formatter<W>) -> fmt::Result {
+        f.write_str(self.words())
     }
 }
 

@@ -2,6 +2,9 @@
 pub mod bytes;
 pub mod cells;
 pub mod faults;
+mod misfits;
 pub mod naming;
+pub mod pages;
 pub mod places;
+pub mod source;
 pub mod tokens;
