@@ -3,6 +3,7 @@ pub mod Cases
 pub mod Picks
 pub mod Runs
 pub mod Few
+pub mod Filling
 pub mod Forms
 pub mod Lookup
 pub mod PlaceNames

@@ -115,10 +115,13 @@ name ns (w ∷ v ∷ ws) = none
 -- one column more
 abbrev pub begin : Page → Word → Page
 begin s w = record { columns = s .columns ++ record { name = w; code = [] } ∷ []; places = s .places }
--- the cells of the line that names the threads
+-- a cell of the line that names the threads
+abbrev pub begins : Page → List ℕ → Option Page
+begins s c = opt (tokens c) none (λ ts. opt (name (names (s .columns)) ts) none (λ w. some (begin s w)))
+-- the cells of that line
 abbrev pub heading : Page → List (List ℕ) → Option Page
 heading s [] = some s
-heading s (c ∷ cs) = opt (tokens c) none (λ ts. opt (name (names (s .columns)) ts) none (λ w. heading (begin s w) cs))
+heading s (c ∷ cs) = opt (begins s c) none (λ s. heading s cs)
 -- what stands in a line before a comment
 abbrev pub content : Page → List ℕ → Option Page
 content s c = pick (all blank c) (some s) (pick (empty (s .columns)) (heading s (pieces 124 c)) (row 0 s (pieces 124 c)))
