@@ -60,3 +60,6 @@ module _ (k : ℕ) (s : Page) (bs : List ℕ) (c : Column) (here : nth (s .colum
   cell-not ts e f = opt-is none at-column here ∙ opt-is none after-tokens e ∙ opt-none none after-does f
   pub cell-no-tokens : tokens bs ≡ none → cell k s bs ≡ none
   cell-no-tokens e = opt-is none at-column here ∙ opt-none none after-tokens e
+pub cell-past : (k : ℕ) (s : Page) (bs : List ℕ) → length (s .columns) ≤ k → cell k s bs ≡ none
+cell-past k s bs l =
+    opt-none none (λ (c : Column). opt (tokens bs) none (λ (ts : List Word). opt (does (s .places) c ts) none (λ (q : Places × Column). some (record { columns = put (s .columns) k (q .1); places = q .0 })))) (nth-past (s .columns) k l)

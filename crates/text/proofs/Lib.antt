@@ -8,3 +8,4 @@ pub mod Forms
 pub mod Lookup
 pub mod PlaceNames
 pub mod Scanning
+pub mod Turns

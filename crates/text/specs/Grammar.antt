@@ -118,19 +118,16 @@ begin s w = record { columns = s .columns ++ record { name = w; code = [] } ∷ 
 -- a cell of the line that names the threads
 abbrev pub begins : Page → List ℕ → Option Page
 begins s c = opt (tokens c) none (λ ts. opt (name (names (s .columns)) ts) none (λ w. some (begin s w)))
--- the cells of that line
-abbrev pub heading : Page → List (List ℕ) → Option Page
-heading s [] = some s
-heading s (c ∷ cs) = opt (begins s c) none (λ s. heading s cs)
+-- one piece of text after another
+abbrev pub each : (Page → List ℕ → Option Page) → Page → List (List ℕ) → Option Page
+each f s [] = some s
+each f s (p ∷ ps) = opt (f s p) none (λ s. each f s ps)
 -- what stands in a line before a comment
 abbrev pub content : Page → List ℕ → Option Page
-content s c = pick (all blank c) (some s) (pick (empty (s .columns)) (heading s (pieces 124 c)) (row 0 s (pieces 124 c)))
+content s c = pick (all blank c) (some s) (pick (empty (s .columns)) (each begins s (pieces 124 c)) (row 0 s (pieces 124 c)))
 -- a line: text throughout; `#` begins a comment
 abbrev pub line : Page → List ℕ → Option Page
 line s l = pick (all plain (no-cr l)) (content s (before 35 (no-cr l))) none
-abbrev pub lines : Page → List (List ℕ) → Option Page
-lines s [] = some s
-lines s (l ∷ ls) = opt (line s l) none (λ s. lines s ls)
 abbrev pub blank-page : Page
 blank-page = record { columns = []; places = record { numerals = false; words = [] } }
 -- a page is whole once the threads are named
@@ -138,4 +135,4 @@ abbrev pub whole : Page → Option Listing
 whole s = pick (empty (s .columns)) none (some (record { columns = s .columns; places = s .places .words }))
 -- the listing that a text says; none where it is refused
 abbrev pub reads : List ℕ → Option Listing
-reads text = opt (lines blank-page (pieces 10 text)) none whole
+reads text = opt (each line blank-page (pieces 10 text)) none whole

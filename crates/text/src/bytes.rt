@@ -1,6 +1,8 @@
 // Bytes by their kinds, and how far a run of one kind goes.
 ghost use mathlib.Core.Path.{_≡_};
-ghost use Rattle.text.specs.Bytes.{run, all, same};
+ghost use Prim.Native.Nat.{_≤_};
+ghost use lib.ListN.{length};
+ghost use Rattle.text.specs.Bytes.{run, all, word, same};
 ghost use Rattle.text.specs.Kinds.{test};
 
 #[derive(Clone, Copy)]
@@ -34,7 +36,8 @@ impl Kind {
 
     // How many bytes at the front are of this kind.
     pub fn run(self, bytes: &[u8]) -> usize
-        ensures { λ r. ⌜ r ≡ run (test self) (now (bytes .entry)) ⌝ }
+        ensures value { λ r. ⌜ r ≡ run (test self) (now (bytes .entry)) ⌝ }
+        ensures within { λ r. ⌜ r ≤ length (now (bytes .entry)) ⌝ }
     {
         for (i, b) in bytes.iter().enumerate() {
             if !self.has(*b) {
@@ -50,6 +53,13 @@ impl Kind {
     {
         self.run(bytes) == bytes.len()
     }
+}
+
+// Whether these bytes are a word.
+pub fn is_word(bytes: &[u8]) -> bool
+    ensures { λ r. ⌜ r ≡ word (now (bytes .entry)) ⌝ }
+{
+    !bytes.is_empty() && Kind::Letter.all(bytes)
 }
 
 // Whether these are the same bytes.

@@ -20,7 +20,8 @@ pub enum Expected {
     ThreadName,
     NewThreadName,
     FourThreads,
-    ThreadCount,
+    LineEnd,
+    NameEnd,
     EightInstructions,
     Instruction,
     Assign,
@@ -38,8 +39,8 @@ pub enum Expected {
 
 #[derive(Debug, Drop)]
 pub enum Found {
-    // nothing more in the cell, or in the text
-    End,
+    CellEnd,
+    TextEnd,
     Byte(u8),
     Text(String),
 }
@@ -73,10 +74,10 @@ impl Spot {
         Spot { line: self.line, column: self.column.saturating_add(bytes) }
     }
 
-    // What was found here instead of what was expected: nothing, or these bytes.
+    // What was found here instead of what was expected: these bytes, or none where the cell ends.
     pub fn fault(self, heap: Global, expected: Expected, bytes: &[u8]) -> Fault {
         let found = match bytes {
-            [] => Found::End,
+            [] => Found::CellEnd,
             [b @ 0..=32] => Found::Byte(*b),
             [b @ 127..=255] => Found::Byte(*b),
             _ => match String::from_utf8_lossy(heap, bytes) {
@@ -95,7 +96,8 @@ impl Expected {
             Expected::ThreadName => "the name of a thread",
             Expected::NewThreadName => "the name of another thread",
             Expected::FourThreads => "at most four threads",
-            Expected::ThreadCount => "no more cells than threads",
+            Expected::LineEnd => "the end of the line",
+            Expected::NameEnd => "`|` or the end of the line",
             Expected::EightInstructions => "at most eight instructions in a thread",
             Expected::Instruction => "`r1 = 7`, `r1 = r2 + r3`, `r1 = [place]`, `[place] = r1` or `fence`",
             Expected::Assign => "`=`",
@@ -122,7 +124,8 @@ impl fmt::Display for Expected as ExpectedDisplay {
 impl fmt::Display for Found as FoundDisplay {
     fn fmt<W: fmt::Write>(&self, f: &mut fmt::Formatter<W>) -> fmt::Result {
         match self {
-            Found::End => f.write_str("nothing"),
+            Found::CellEnd => f.write_str("the end of the cell"),
+            Found::TextEnd => f.write_str("the end of the text"),
             Found::Byte(b) => {
                 let b = *b;
                 write!(f, "the byte {b}")

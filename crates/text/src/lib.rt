@@ -6,5 +6,6 @@ mod misfits;
 pub mod naming;
 pub mod pages;
 pub mod places;
+pub mod reading;
 pub mod source;
 pub mod tokens;

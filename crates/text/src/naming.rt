@@ -10,6 +10,7 @@ ghost use Rattle.text.specs.Answers.{Answers};
 ghost use Rattle.text.specs.Bytes.{index-of, word};
 ghost use Rattle.text.specs.Grammar.{numeral, place, by-numeral, by-word};
 ghost use Rattle.text.specs.Meaning.{words, places, option};
+use crate::bytes;
 use crate::bytes::Kind;
 use crate::faults::Expected;
 use crate::faults::Fault;
@@ -49,7 +50,7 @@ impl Places {
     pub fn place(&mut self, heap: Global, name: &[u8], spot: Spot) -> Result<Place, Fault>
         ensures { λ r. ⌜ Answers r (λ x. (places (now (self .exit)), x .0)) (place (places (now (self .entry))) (now (name .entry))) ⌝ }
     {
-        if name.is_empty() || !Kind::Letter.all(name) {
+        if !bytes::is_word(name) {
             return Err(spot.fault(heap, Expected::Place, name));
         }
         if Kind::Digit.all(name) {

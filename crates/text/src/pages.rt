@@ -5,7 +5,7 @@ ghost use Prim.Native.Nat.{_<_};
 ghost use Rattle.std.specs.Of.Vec.{vec-items, vec-len};
 ghost use Rattle.text.specs.Answers.{Answers};
 ghost use Rattle.text.specs.Bytes.{no-cr, pieces, has};
-ghost use Rattle.text.specs.Grammar.{names, does, cell, row, begins, heading, line, lines};
+ghost use Rattle.text.specs.Grammar.{names, does, cell, row, begins, each, content, line};
 ghost use Rattle.text.specs.Meaning.{token, places, column, page};
 use crate::bytes;
 use crate::bytes::Kind;
@@ -42,6 +42,23 @@ fn does(heap: Global, named: &mut Places, thread: &mut Thread, tokens: &[Token<'
     Ok(())
 }
 
+// A line without the CR that it may end in.
+fn without_cr(line: &[u8]) -> &[u8]
+    ensures { λ r. ⌜ now r ≡ no-cr (now (line .entry)) ⌝ }
+{
+    let n = line.len();
+    if n > 0 && line[n - 1] == b'\r' { &line[0..n - 1] } else { line }
+}
+
+// The fault of a name that is not one token.
+fn misnamed(heap: Global, tokens: &[Token<'_>], spot: Spot) -> Fault {
+    if tokens.len() > 1 {
+        tokens[1].spot.fault(heap, Expected::NameEnd, tokens[1].text)
+    } else {
+        spot.fault(heap, Expected::ThreadName, b"")
+    }
+}
+
 impl Page {
     // A cell of thread `k`.
     fn cell(&mut self, heap: Global, k: usize, bytes: &[u8], spot: Spot) -> Result<(), Fault>
@@ -58,18 +75,20 @@ impl Page {
     {
         let mut rest = content;
         let mut spot = start;
+        let mut bar = start;
         let mut k = 0;
         loop {
             let n = Kind::But(b'|').run(rest);
             if k >= self.threads.len() {
-                return Err(spot.fault(heap, Expected::ThreadCount, &rest[0..n]));
+                return Err(bar.fault(heap, Expected::LineEnd, b"|"));
             }
             self.cell(heap, k, &rest[0..n], spot)?;
             if n >= rest.len() {
                 return Ok(());
             }
             rest = &rest[n + 1..];
-            spot = spot.on(n + 1);
+            bar = spot.on(n);
+            spot = bar.on(1);
             k += 1;
         }
     }
@@ -92,11 +111,10 @@ impl Page {
     {
         let tokens = tokens::tokens(heap, cell, spot)?;
         if tokens.len() != 1 {
-            let found: &[u8] = if tokens.is_empty() { b"" } else { tokens[1].text };
-            return Err(spot.fault(heap, Expected::ThreadName, found));
+            return Err(misnamed(heap, tokens.as_slice(), spot));
         }
         let word = tokens[0];
-        if !Kind::Letter.all(word.text) {
+        if !bytes::is_word(word.text) {
             return Err(word.spot.fault(heap, Expected::ThreadName, word.text));
         }
         if self.has(word.text) {
@@ -108,5 +126,63 @@ impl Page {
         let name = String::from_utf8_lossy(heap, word.text)?;
         self.threads.push(Thread { name, code: Vec::new(heap) })?;
         Ok(())
+    }
+    // The line that names the threads.
+    fn heading(&mut self, heap: Global, content: &[u8], start: Spot) -> Result<(), Fault>
+        ensures { λ r. ⌜ Answers r (λ _. page (now (self .exit))) (each begins (page (now (self .entry))) (pieces 124 (now (content .entry)))) ⌝ }
+    {
+        let mut rest = content;
+        let mut spot = start;
+        loop {
+            let n = Kind::But(b'|').run(rest);
+            self.begin(heap, &rest[0..n], spot)?;
+            if n >= rest.len() {
+                return Ok(());
+            }
+            rest = &rest[n + 1..];
+            spot = spot.on(n + 1);
+        }
+    }
+
+    // What stands in a line before a comment.
+    fn content(&mut self, heap: Global, bytes: &[u8], spot: Spot) -> Result<(), Fault>
+        ensures { λ r. ⌜ Answers r (λ _. page (now (self .exit))) (content (page (now (self .entry))) (now (bytes .entry))) ⌝ }
+    {
+        if Kind::Blank.all(bytes) {
+            return Ok(());
+        }
+        if self.threads.is_empty() {
+            self.heading(heap, bytes, spot)
+        } else {
+            self.row(heap, bytes, spot)
+        }
+    }
+
+    fn line(&mut self, heap: Global, bytes: &[u8], spot: Spot) -> Result<(), Fault>
+        ensures { λ r. ⌜ Answers r (λ _. page (now (self .exit))) (line (page (now (self .entry))) (now (bytes .entry))) ⌝ }
+    {
+        let text = without_cr(bytes);
+        let plain = Kind::Plain.run(text);
+        if plain < text.len() {
+            return Err(spot.on(plain).fault(heap, Expected::Text, &text[plain..plain + 1]));
+        }
+        self.content(heap, &text[0..Kind::But(b'#').run(text)], spot)
+    }
+
+    // Every line of a text; answers where the text ends.
+    pub fn lines(&mut self, heap: Global, text: &[u8]) -> Result<Spot, Fault>
+        ensures { λ r. ⌜ Answers r (λ _. page (now (self .exit))) (each line (page (now (self .entry))) (pieces 10 (now (text .entry)))) ⌝ }
+    {
+        let mut rest = text;
+        let mut spot = Spot { line: 1, column: 1 };
+        loop {
+            let n = Kind::But(b'\n').run(rest);
+            self.line(heap, &rest[0..n], spot)?;
+            if n >= rest.len() {
+                return Ok(spot.on(n));
+            }
+            rest = &rest[n + 1..];
+            spot = Spot { line: spot.line.saturating_add(1), column: 1 };
+        }
     }
 }

@@ -8,4 +8,4 @@ use Rattle.text.proofs.bytes.Kind.all.Needs as need
 
 pub returns : need.returns
 returns c =
-    ap (λ (n : ℕ). eqb n (length (c .args .bytes .now))) (c .run .ensures) ∙ run-all (test (c .args .self)) (c .args .bytes .now)
+    ap (λ (n : ℕ). eqb n (length (c .args .bytes .now))) (c .run .ensures .value) ∙ run-all (test (c .args .self)) (c .args .bytes .now)

@@ -9,7 +9,10 @@ use Rattle.text.proofs.bytes.Kind.run.Needs as need
 
 pub returns-then-not-has : need.returns-then-not-has
 returns-then-not-has c =
-    sym (run-ends (test (c .args .self)) (c .args .bytes .now) (c .loop-i .i) (c .loop-i-test .taken) (sym (c .if-not-has .ensures tt)) (c .loop-i .inv))
+    record {
+      value = sym (run-ends (test (c .args .self)) (c .args .bytes .now) (c .loop-i .i) (c .loop-i-test .taken) (sym (c .if-not-has .ensures tt)) (c .loop-i .inv));
+      within = omega arith;
+    }
 
 pub loop-i-again : need.loop-i-again
 loop-i-again c =
@@ -19,4 +22,4 @@ pub returns : need.returns
 returns c =
     let over = run-over (test (c .args .self)) (c .args .bytes .now) (c .loop-i .i) (c .loop-i-test .left) (c .loop-i .inv) in
     let end : length (c .args .bytes .now) ≡ c .loop-i .i = omega arith in
-    end ∙ sym over
+    record { value = end ∙ sym over; within = omega arith }
