@@ -5,6 +5,7 @@ pub mod Runs
 pub mod Few
 pub mod Filling
 pub mod Forms
+pub mod Headings
 pub mod Lookup
 pub mod PlaceNames
 pub mod Scanning

@@ -1,7 +1,7 @@
 -- Words looked up in a list of words.
 use mathlib.Core.Path.{_≡_, refl, sym, ap, subst, _∙_}
 use mathlib.Core.Bool.{Bool, true, false, _&&_, _||_, not}
-use mathlib.Core.List.{List, [], _∷_, _++_}
+use mathlib.Core.List.{List, [], _∷_, _++_, map}
 use mathlib.Core.Option.{Option, some, none}
 use Prim.Native.Nat.{ℕ, zero, suc, _+_, _≤_, _<_}
 use native.Mathlib.Nat.{add-zero, zero-add}
@@ -18,7 +18,9 @@ use Rattle.std.proofs.shelf.Lists.{at-drop-more, at-drop-all, getD-map, length-
 use Rattle.std.proofs.shelf.Ways.{same-from-decides, decides-like}
 use Rattle.model.specs.Code.{pick, opt}
 use Rattle.text.specs.Bytes.{Word, empty, same, index-of, has}
-use Rattle.text.specs.Meaning.{words}
+use Rattle.text.specs.declared.source.Thread.{Thread}
+use Rattle.text.specs.Grammar.{Column, names}
+use Rattle.text.specs.Meaning.{words, column}
 use Rattle.text.proofs.Picks.{pick-true, pick-false}
 
 pub same-decides : (v w : Word) → Decides (same v w) (v ≡ w)
@@ -60,5 +62,23 @@ looked all k s bs w r l is b d =
 pub empty-is : {A : Type 0} (xs : List A) → eqb (length xs) 0 ≡ empty xs
 empty-is [] = refl
 empty-is (x ∷ xs) = eqb·suc-zero (length xs)
-pub empty-words : (ss : List (String Global)) (n : ℕ) → n ≡ length ss → eqb n 0 ≡ empty (words ss)
-empty-words ss n e = ap (λ (k : ℕ). eqb k 0) (e ∙ sym (length-map ss string-bytes)) ∙ empty-is (words ss)
+-- whether a list is empty, by the length of what it was made from
+pub empty-map : {A B : Type 0} (f : A → B) (xs : List A) (n : ℕ) → n ≡ length xs → eqb n 0 ≡ empty (map f xs)
+empty-map f xs n e = ap (λ (k : ℕ). eqb k 0) (e ∙ sym (length-map xs f)) ∙ empty-is (map f xs)
+
+-- a loop that looks for w from the front
+module _ (w : Word) (ws : List Word) where
+  abbrev pub Left : ℕ → Type 0
+  Left i = has w ws ≡ has w (drop i ws)
+  pub has-more : (i : ℕ) → i < length ws → same w (getD ws i []) ≡ false → Left i → Left (i + 1)
+  has-more i l e h = h ∙ at-drop-more (has w) ws i [] l ∙ ap (λ (b : Bool). b || has w (drop (i + 1) ws)) e
+  pub has-found : (i : ℕ) → i < length ws → same w (getD ws i []) ≡ true → Left i → true ≡ has w ws
+  has-found i l e h = sym (h ∙ at-drop-more (has w) ws i [] l ∙ ap (λ (b : Bool). b || has w (drop (i + 1) ws)) e)
+  pub has-all : (i : ℕ) → length ws ≤ i → Left i → false ≡ has w ws
+  has-all i l h = sym (h ∙ at-drop-all (has w) ws i l)
+-- the name of the i-th column
+pub name-at : (ts : List Thread) (i : ℕ) (t : Thread) → i < length ts → t ≡ getD ts i t → getD (names (map column ts)) i [] ≡ string-bytes (t .name)
+name-at ts i t l e =
+    let long = length-map ts column in
+    getD-map (λ (c : Column). c .name) (map column ts) i (column t) [] (omega arith)
+    ∙ ap (λ (c : Column). c .name) (getD-map column ts i t (column t) l ∙ ap column (sym e))

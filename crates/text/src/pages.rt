@@ -47,7 +47,13 @@ fn without_cr(line: &[u8]) -> &[u8]
     ensures { λ r. ⌜ now r ≡ no-cr (now (line .entry)) ⌝ }
 {
     let n = line.len();
-    if n > 0 && line[n - 1] == b'\r' { &line[0..n - 1] } else { line }
+    if n == 0 {
+        return line;
+    }
+    if line[n - 1] == b'\r' {
+        return &line[0..n - 1];
+    }
+    line
 }
 
 // The fault of a name that is not one token.
