@@ -7,6 +7,10 @@ pub mod Filling
 pub mod Forms
 pub mod Headings
 pub mod Lookup
+pub mod Ordering
 pub mod PlaceNames
+pub mod Sayings
 pub mod Scanning
+pub mod Spelling
+pub mod Tidy
 pub mod Turns

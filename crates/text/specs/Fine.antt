@@ -19,7 +19,7 @@ apart (w ∷ ws) = word w && (not (has w ws) && apart ws)
 abbrev pub no-numerals : List Word → Bool
 no-numerals [] = true
 no-numerals (w ∷ ws) = not (all digit w) && no-numerals ws
--- of n places seen, and then those of an instruction: how many are seen then; none where one is passed over
+-- how many places are seen, where n were and then x comes; none where one is passed over
 abbrev pub see : ℕ → ℕ → Option ℕ
 see n x = pick (ltb x n) (some n) (pick (eqb x n) (some (suc n)) none)
 abbrev pub seen-i : ℕ → I → Option ℕ
@@ -28,20 +28,20 @@ seen-i n (adds r a b) = some n
 seen-i n (loads r x) = see n x
 seen-i n (stores x r) = see n x
 seen-i n fence = some n
--- the same for the j-th instruction of each thread, from left to right
-abbrev pub seen-row : ℕ → ℕ → Prog → Option ℕ
-seen-row j n [] = some n
-seen-row j n (t ∷ ts) = opt (opt (nth t j) (some n) (seen-i n)) none (λ n. seen-row j n ts)
--- the same for h rows from row j on
-abbrev pub seen-rows : Prog → ℕ → ℕ → ℕ → Option ℕ
-seen-rows p j n zero = some n
-seen-rows p j n (suc h) = opt (seen-row j n p) none (λ n. seen-rows p (suc j) n h)
+-- a count carried through the j-th instruction of each thread, from left to right
+abbrev pub through-row : (ℕ → I → Option ℕ) → ℕ → ℕ → Prog → Option ℕ
+through-row f j n [] = some n
+through-row f j n (t ∷ ts) = opt (opt (nth t j) (some n) (f n)) none (λ n. through-row f j n ts)
+-- and through h rows from row j on
+abbrev pub through-rows : (ℕ → I → Option ℕ) → Prog → ℕ → ℕ → ℕ → Option ℕ
+through-rows f p j n zero = some n
+through-rows f p j n (suc h) = opt (through-row f j n p) none (λ n. through-rows f p (suc j) n h)
 -- the places are named by words in the order in which they first come, line by line and from left to right
 pub record Ordered (ns : List Word) (p : Prog) : Type 0 where
   pub words : T (apart ns)
   pub no-numeral : T (no-numerals ns)
   pub few : length ns ≤ 8
-  pub order : seen-rows p 0 0 (height p) ≡ some (length ns)
+  pub order : through-rows seen-i p 0 0 (height p) ≡ some (length ns)
 -- places are numerals, or words in their order
 abbrev pub Named : List Word → Prog → Type 0
 Named [] p = Unit {0}
