@@ -2,10 +2,12 @@
 pub mod Cases
 pub mod Picks
 pub mod Runs
+pub mod Columns
 pub mod Few
 pub mod Filling
 pub mod Forms
 pub mod Headings
+pub mod Lines
 pub mod Lookup
 pub mod Ordering
 pub mod PlaceNames

@@ -27,18 +27,18 @@ same-sym v w = same-from-decides (same v w) (same w v) (same-decides v w) (decid
 pub same-refl : (w : Word) → same w w ≡ true
 same-refl w = same-decides w w .1 refl
 -- a word that is not among others is none of them
-other : (v w : Word) (vs : List Word) (k : ℕ) → has v vs ≡ false → nth vs k ≡ some w → same w v ≡ false
+pub other : (v w : Word) (vs : List Word) (k : ℕ) → has v vs ≡ false → nth vs k ≡ some w → same w v ≡ false
 other v w [] k h e = absurd (let z : _≡_ {A = ℕ} 0 1 = cc in omega arith)
 other v w (u ∷ vs) zero h e =
     let is : u ≡ w = cc in
     same-sym w v ∙ ap (same v) (sym is) ∙ or-parts (same v u) (has v vs) h .0
 other v w (u ∷ vs) (suc k) h e = other v w vs k (or-parts (same v u) (has v vs) h .1) e
 
-record Parts (w : Word) (ws : List Word) : Type 0 where
-  is-word : word w ≡ true
-  once : has w ws ≡ false
-  rest : apart ws ≡ true
-parts : (w : Word) (ws : List Word) → apart (w ∷ ws) ≡ true → Parts w ws
+pub record Parts (w : Word) (ws : List Word) : Type 0 where
+  pub is-word : word w ≡ true
+  pub once : has w ws ≡ false
+  pub rest : apart ws ≡ true
+pub parts : (w : Word) (ws : List Word) → apart (w ∷ ws) ≡ true → Parts w ws
 parts w ws e =
     let p = and-parts (word w) (not (has w ws) && apart ws) e in
     let q = and-parts (not (has w ws)) (apart ws) (p .1) in
@@ -65,10 +65,10 @@ is-new [] n w a e = absurd (let z : _≡_ {A = ℕ} 0 1 = cc in omega arith)
 is-new (v ∷ vs) zero w a e = refl
 is-new (v ∷ vs) (suc n) w a e =
     pick-false _ _ (other v w vs n (parts v vs a .once) e) ∙ ap (λ (o : Option ℕ). opt o none (λ (k : ℕ). some (suc k))) (is-new vs n w (parts v vs a .rest) e)
-take-one-more : (ns : List Word) (n : ℕ) (w : Word) → nth ns n ≡ some w → take n ns ++ w ∷ [] ≡ take (suc n) ns
-take-one-more [] n w e = absurd (let z : _≡_ {A = ℕ} 0 1 = cc in omega arith)
-take-one-more (v ∷ vs) zero w e = let is : v ≡ w = cc in ap (λ (u : Word). u ∷ []) (sym is)
-take-one-more (v ∷ vs) (suc n) w e = ap (λ (us : List Word). v ∷ us) (take-one-more vs n w e)
+pub take-one-more : {A : Type 0} (xs : List A) (n : ℕ) (x : A) → nth xs n ≡ some x → take n xs ++ x ∷ [] ≡ take (suc n) xs
+take-one-more [] n x e = absurd (let z : _≡_ {A = ℕ} 0 1 = cc in omega arith)
+take-one-more (y ∷ xs) zero x e = let is : y ≡ x = cc in ap (λ (u : _). u ∷ []) (sym is)
+take-one-more (y ∷ xs) (suc n) x e = ap (λ (us : List _). y ∷ us) (take-one-more xs n x e)
 
 pub nth-some : {A : Type 0} (xs : List A) (k : ℕ) → k < length xs → (x : A) × (nth xs k ≡ some x)
 nth-some [] k l = absurd (omega arith)

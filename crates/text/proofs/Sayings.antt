@@ -36,7 +36,7 @@ spell-at ts w rest e =
     ap (λ (bs : List ℕ). tokens-on (at (ts ++ codes "[" ∷ []) []) bs) (append-assoc w (codes "]") rest)
     ∙ spell-word (ts ++ codes "[" ∷ []) w (codes "]" ++ rest) e refl
 
--- what is promised of a printed instruction: its tokens, how they are read, and what it is made of
+-- what is promised of a printed instruction: its tokens, how they are read, and that it is tidy
 pub record Said (ns : List Word) (ps : Places) (i : I) (m : ℕ) : Type 0 where
   pub first : Word
   pub more : List Word
@@ -45,7 +45,14 @@ pub record Said (ns : List Word) (ps : Places) (i : I) (m : ℕ) : Type 0 where
   pub read : instruction ps (first ∷ more) ≡ some (after, i)
   pub known : Known ns m after
   pub tidied : all tidy (show-i ns i) ≡ true
-  pub dark : all blank (show-i ns i) ≡ false
+
+-- no printed instruction is blank
+pub dark : (ns : List Word) (i : I) → all blank (show-i ns i) ≡ false
+dark ns (sets r n) = refl
+dark ns (adds r a b) = refl
+dark ns (loads r x) = refl
+dark ns (stores x r) = refl
+dark ns fence = refl
 
 -- an instruction without a place leaves the count as it is
 still : (ns : List Word) (n m : ℕ) (i : I) → ((k : ℕ) → seen-i k i ≡ some k) → counts ns n i ≡ some m → m ≡ n
@@ -75,7 +82,6 @@ module _ (ns : List Word) (ps : Places) (n m : ℕ) (proper : Proper ns) (known 
     read = opt-is none (λ (r : ℕ). opt (number (decimal v)) none (λ (v : ℕ). some (ps, sets r v))) (register-read r l) ∙ opt-is none (λ (v : ℕ). some (ps, sets r v)) (number-read v k);
     known = as-before e;
     tidied = all-append tidy (show-register r) (codes " = " ++ decimal v) (tidy-register r l) (word-tidy (decimal v) (word-letters (decimal v) (number-word v k)));
-    dark = refl;
   }
   say-add : (r a b : ℕ) → r < 4 → a < 4 → b < 4 → m ≡ n → Said ns ps (adds r a b) m
   say-add r a b l j k e = record {
@@ -94,7 +100,6 @@ module _ (ns : List Word) (ps : Places) (n m : ℕ) (proper : Proper ns) (known 
     tidied =
       all-append tidy (show-register r) (codes " = " ++ (show-register a ++ (codes " + " ++ show-register b))) (tidy-register r l)
       (all-append tidy (show-register a) (codes " + " ++ show-register b) (tidy-register a j) (tidy-register b k));
-    dark = refl;
   }
   say-load : (r x : ℕ) → r < 4 → Placed ns ps x m → Said ns ps (loads r x) m
   say-load r x l p = record {
@@ -111,7 +116,6 @@ module _ (ns : List Word) (ps : Places) (n m : ℕ) (proper : Proper ns) (known 
       ∙ opt-is none (λ (q : Places × ℕ). some (q .0, loads r (q .1))) (p .read);
     known = p .known;
     tidied = all-append tidy (show-register r) (codes " = " ++ show-at ns x) (tidy-register r l) (tidy-at x p);
-    dark = refl;
   }
   say-store : (x r : ℕ) → r < 4 → Placed ns ps x m → Said ns ps (stores x r) m
   say-store x r l p = record {
@@ -130,7 +134,6 @@ module _ (ns : List Word) (ps : Places) (n m : ℕ) (proper : Proper ns) (known 
       ∙ opt-is none (λ (r : ℕ). some (p .after, stores x r)) (register-read r l);
     known = p .known;
     tidied = all-append tidy (show-at ns x) (codes " = " ++ show-register r) (tidy-at x p) (tidy-register r l);
-    dark = refl;
   }
   pub said : (i : I) → ok-i i ≡ true → counts ns n i ≡ some m → Said ns ps i m
   said (sets r v) ok e =
@@ -154,5 +157,4 @@ module _ (ns : List Word) (ps : Places) (n m : ℕ) (proper : Proper ns) (known 
     read = refl;
     known = as-before (still ns n m fence (λ k. refl) e);
     tidied = refl;
-    dark = refl;
   }
