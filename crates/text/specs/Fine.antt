@@ -8,7 +8,7 @@ use lib.Dec.{T, eqb, ltb}
 use lib.ListN.{length}
 use Rattle.model.specs.Code.{pick, opt, nth, I, sets, adds, loads, stores, fence, Thread, Prog, ok}
 use Rattle.text.specs.Bytes.{Word, digit, all, word, has}
-use Rattle.text.specs.Grammar.{names, Listing, program, reads}
+use Rattle.text.specs.Grammar.{Column, names, Listing, program, reads}
 use Rattle.text.specs.Shows.{height, shows}
 
 -- each a word, and each once
@@ -53,3 +53,13 @@ pub record Fine (l : Listing) : Type 0 where
 -- what is printed of a fine listing is read back as that listing
 abbrev pub Round-trip : Type 0
 Round-trip = (l : Listing) → Fine l → reads (shows l) ≡ some l
+-- a program with names for its threads, and numerals for its places
+abbrev pub listed-columns : List Word → Prog → List Column
+listed-columns [] p = []
+listed-columns (w ∷ ws) [] = []
+listed-columns (w ∷ ws) (t ∷ ts) = record { name = w; code = t } ∷ listed-columns ws ts
+abbrev pub listed : List Word → Prog → Listing
+listed ws p = record { columns = listed-columns ws p; places = [] }
+-- so every program that words allow is printed, under any names for its threads, and read back as that program
+abbrev pub Every-program : Type 0
+Every-program = (ws : List Word) (p : Prog) → T (ok p) → T (apart ws) → length ws ≡ length p → (program (listed ws p) ≡ p) × (reads (shows (listed ws p)) ≡ some (listed ws p))

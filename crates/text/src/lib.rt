@@ -6,6 +6,7 @@ mod misfits;
 pub mod naming;
 pub mod pages;
 pub mod places;
+pub mod printing;
 pub mod reading;
 pub mod source;
 pub mod tokens;
