@@ -1,6 +1,7 @@
 -- The round trip, and what the functions' proofs share.
 pub mod Cases
 pub mod Picks
+pub mod Printed
 pub mod RoundTrip
 pub mod Runs
 pub mod Columns

@@ -14,7 +14,7 @@ use Rattle.std.proofs.shelf.Tests.{and-parts, and-left, and-right, ltb-true}
 use Rattle.model.specs.Code.{pick, opt, I, sets, adds, loads, stores, fence, ok-i}
 use Rattle.text.specs.Bytes.{Word, blank, letter, all, empty, word, same, tokens-on, tokens}
 use Rattle.text.specs.Grammar.{Places, register, number, place, set, sum, load, store, instruction}
-use Rattle.text.specs.Shows.{show-register, show-place, show-at, show-i}
+use Rattle.text.specs.Shows.{show-register, show-place, show-i}
 use Rattle.text.specs.Fine.{seen-i}
 use Rattle.text.proofs.Forms.{is-sum, is-load, is-store}
 use Rattle.text.proofs.Ordering.{Proper, Known, counts, count, Placed, placed}
@@ -28,14 +28,6 @@ word-letters w e = and-parts (not (empty w)) (all letter w) e .1
 
 abbrev eq : Word
 eq = codes "="
-spell-assign : (ts : List Word) (rest : List ℕ) → tokens-on (at ts []) (codes " = " ++ rest) ≡ tokens-on (at (ts ++ eq ∷ []) []) rest
-spell-assign ts rest = refl
--- a place in its brackets
-spell-at : (ts : List Word) (w rest : Word) → word w ≡ true → tokens-on (at ts []) ((codes "[" ++ (w ++ codes "]")) ++ rest) ≡ tokens-on (at (((ts ++ codes "[" ∷ []) ++ w ∷ []) ++ codes "]" ∷ []) []) rest
-spell-at ts w rest e =
-    ap (λ (bs : List ℕ). tokens-on (at (ts ++ codes "[" ∷ []) []) bs) (append-assoc w (codes "]") rest)
-    ∙ spell-word (ts ++ codes "[" ∷ []) w (codes "]" ++ rest) e refl
-
 -- what is promised of a printed instruction: its tokens, how they are read, and that it is tidy
 pub record Said (ns : List Word) (ps : Places) (i : I) (m : ℕ) : Type 0 where
   pub first : Word
@@ -70,8 +62,8 @@ module _ (ns : List Word) (ps : Places) (n m : ℕ) (proper : Proper ns) (known 
   as-before e = subst (λ (k : ℕ). Known ns k ps) (sym e) known
   tidy-register : (r : ℕ) → r < 4 → all tidy (show-register r) ≡ true
   tidy-register r l = word-tidy (show-register r) (word-letters (show-register r) (register-word r l))
-  tidy-at : (x : ℕ) → Placed ns ps x m → all tidy (show-at ns x) ≡ true
-  tidy-at x p = all-append tidy (show-place ns x) (codes "]") (word-tidy (show-place ns x) (word-letters (show-place ns x) (p .is-word))) refl
+  tidy-place : (x : ℕ) → Placed ns ps x m → all tidy (show-place ns x) ≡ true
+  tidy-place x p = word-tidy (show-place ns x) (word-letters (show-place ns x) (p .is-word))
 
   say-set : (r v : ℕ) → r < 4 → v < 16 → m ≡ n → Said ns ps (sets r v) m
   say-set r v l k e = record {
@@ -106,23 +98,24 @@ module _ (ns : List Word) (ps : Places) (n m : ℕ) (proper : Proper ns) (known 
     first = show-register r;
     more = eq ∷ codes "[" ∷ show-place ns x ∷ codes "]" ∷ [];
     spelt =
-      spell-word [] (show-register r) (codes " = " ++ show-at ns x) (register-word r l) refl
-      ∙ ap (tokens-on (at (show-register r ∷ eq ∷ []) [])) (sym (append-nil (show-at ns x)))
-      ∙ spell-at (show-register r ∷ eq ∷ []) (show-place ns x) [] (p .is-word);
+      spell-word [] (show-register r) (codes " = [" ++ (show-place ns x ++ codes "]")) (register-word r l) refl
+      ∙ spell-word (show-register r ∷ eq ∷ codes "[" ∷ []) (show-place ns x) (codes "]") (p .is-word) refl;
     after = p .after;
     read =
       is-load ps (show-register r) eq (codes "[") (show-place ns x) (codes "]") (word-no-sign (show-place ns x) 43 (p .is-word) refl) refl
       ∙ opt-is none (λ (r : ℕ). opt (place ps (show-place ns x)) none (λ (q : Places × ℕ). some (q .0, loads r (q .1)))) (register-read r l)
       ∙ opt-is none (λ (q : Places × ℕ). some (q .0, loads r (q .1))) (p .read);
     known = p .known;
-    tidied = all-append tidy (show-register r) (codes " = " ++ show-at ns x) (tidy-register r l) (tidy-at x p);
+    tidied =
+      all-append tidy (show-register r) (codes " = [" ++ (show-place ns x ++ codes "]")) (tidy-register r l)
+      (all-append tidy (show-place ns x) (codes "]") (tidy-place x p) refl);
   }
   say-store : (x r : ℕ) → r < 4 → Placed ns ps x m → Said ns ps (stores x r) m
   say-store x r l p = record {
     first = codes "[";
     more = show-place ns x ∷ codes "]" ∷ eq ∷ show-register r ∷ [];
     spelt =
-      spell-at [] (show-place ns x) (codes " = " ++ show-register r) (p .is-word)
+      spell-word (codes "[" ∷ []) (show-place ns x) (codes "] = " ++ show-register r) (p .is-word) refl
       ∙ spell-last (codes "[" ∷ show-place ns x ∷ codes "]" ∷ eq ∷ []) (show-register r) (register-word r l);
     after = p .after;
     read =
@@ -133,7 +126,7 @@ module _ (ns : List Word) (ps : Places) (n m : ℕ) (proper : Proper ns) (known 
       ∙ opt-is none (λ (q : Places × ℕ). opt (register (show-register r)) none (λ (r : ℕ). some (q .0, stores (q .1) r))) (p .read)
       ∙ opt-is none (λ (r : ℕ). some (p .after, stores x r)) (register-read r l);
     known = p .known;
-    tidied = all-append tidy (show-at ns x) (codes " = " ++ show-register r) (tidy-at x p) (tidy-register r l);
+    tidied = all-append tidy (show-place ns x) (codes "] = " ++ show-register r) (tidy-place x p) (tidy-register r l);
   }
   pub said : (i : I) → ok-i i ≡ true → counts ns n i ≡ some m → Said ns ps i m
   said (sets r v) ok e =

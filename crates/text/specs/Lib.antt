@@ -2,6 +2,7 @@
 pub mod Bytes
 pub mod Grammar
 pub mod Shows
+pub mod Parts
 pub mod Fine
 pub mod Answers
 pub mod Kinds

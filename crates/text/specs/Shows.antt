@@ -16,14 +16,11 @@ show-register r = 114 ∷ decimal r
 -- a place by its name, or by its numeral where it has none
 abbrev pub show-place : List Word → ℕ → Word
 show-place ns x = opt (nth ns x) (decimal x) (λ w. w)
--- a place in its brackets
-abbrev pub show-at : List Word → ℕ → List ℕ
-show-at ns x = codes "[" ++ (show-place ns x ++ codes "]")
 abbrev pub show-i : List Word → I → List ℕ
 show-i ns (sets r n) = show-register r ++ (codes " = " ++ decimal n)
 show-i ns (adds r a b) = show-register r ++ (codes " = " ++ (show-register a ++ (codes " + " ++ show-register b)))
-show-i ns (loads r x) = show-register r ++ (codes " = " ++ show-at ns x)
-show-i ns (stores x r) = show-at ns x ++ (codes " = " ++ show-register r)
+show-i ns (loads r x) = show-register r ++ (codes " = [" ++ (show-place ns x ++ codes "]"))
+show-i ns (stores x r) = codes "[" ++ (show-place ns x ++ (codes "] = " ++ show-register r))
 show-i ns fence = codes "fence"
 -- the cell of a column in line j: the thread's name in line 0, its j-th instruction in line j, or nothing
 abbrev pub show-cell : List Word → Column → ℕ → List ℕ
