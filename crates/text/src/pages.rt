@@ -21,6 +21,10 @@ use crate::tokens;
 use crate::tokens::Token;
 use std::alloc::Global;
 
+// A program has one to four threads of at most eight instructions.
+const MOST_THREADS: usize = 4;
+const MOST_INSTRUCTIONS: usize = 8;
+
 #[derive(Drop)]
 pub struct Page {
     pub threads: Vec<Thread>,
@@ -40,7 +44,7 @@ fn does(
     if tokens.is_empty() {
         return Ok(());
     }
-    if thread.code.len() >= 8 {
+    if thread.code.len() >= MOST_INSTRUCTIONS {
         return Err(
             tokens[0]
                 .spot
@@ -144,7 +148,7 @@ impl Page {
         if self.has(word.text) {
             return Err(word.spot.fault(heap, Expected::NewThreadName, word.text));
         }
-        if self.threads.len() >= 4 {
+        if self.threads.len() >= MOST_THREADS {
             return Err(word.spot.fault(heap, Expected::FourThreads, word.text));
         }
         let name = String::from_utf8_lossy(heap, word.text)?;
