@@ -7,7 +7,6 @@ use Prim.Native.Nat.{ℕ}
 use lib.Chars.{codes}
 use Rattle.std.specs.Written.{digits}
 use Rattle.model.specs.Code.{I, sets, adds, loads, stores, fence, Prog}
-use Rattle.text.specs.Bytes.{Word, pieces, tokens}
 use Rattle.text.specs.Grammar.{Listing, reads}
 use Rattle.text.specs.Shows.{shows}
 

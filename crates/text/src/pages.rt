@@ -23,6 +23,7 @@ use std::alloc::Global;
 
 // A program has one to four threads of at most eight instructions.
 const MOST_THREADS: usize = 4;
+
 const MOST_INSTRUCTIONS: usize = 8;
 
 #[derive(Drop)]
