@@ -1,3 +1,4 @@
 -- Lemmas on the public calls.
 pub mod Sharing
 pub mod AllOutcomes
+pub mod RowLaws
