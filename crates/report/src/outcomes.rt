@@ -24,12 +24,8 @@ fn write_fields(word: u32, k: usize, out: &mut [u32], at: usize)
 pub fn write_outcome(threads: usize, once: u32, state: &[u32], out: &mut [u32], at: usize)
     requires words { ⌜ length (now state) ≡ 1 + 3 * threads ⌝ }
     requires room { ⌜ at + (9 + 4 * threads) ≤ length (now out) ⌝ }
-    ensures written {
-        λ _. ⌜ ((s : St) → Packs (now (state .entry)) s → take (at + (9 + 4 * threads)) (now (out .exit)) ≡ take at (now (out .entry)) ++ (once ∷ outcome s)) ⌝
-    }
-    ensures behind {
-        λ _. ⌜ drop (at + (9 + 4 * threads)) (now (out .exit)) ≡ drop (at + (9 + 4 * threads)) (now (out .entry)) ⌝
-    }
+    ensures written { λ _. ⌜ ((s : St) → Packs (now (state .entry)) s → take (at + (9 + 4 * threads)) (now (out .exit)) ≡ take at (now (out .entry)) ++ (once ∷ outcome s)) ⌝ }
+    ensures behind { λ _. ⌜ drop (at + (9 + 4 * threads)) (now (out .exit)) ≡ drop (at + (9 + 4 * threads)) (now (out .entry)) ⌝ }
 {
     out[at] = once;
     for n in 0..threads {

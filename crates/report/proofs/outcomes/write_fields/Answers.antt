@@ -17,6 +17,7 @@ loop-f-again c =
     let f = c .loop-f .f in
     let w = c .args .word in
     let v = c .nibble .result in
-    let e : v ≡ getD (nibbles (suc f) w) f 0 = c .nibble .ensures .value (suc f) (omega arith) in
-    ( field-more (c .args .out .now) o at f w v (omega arith) (c .loop-f .inv .0) e
-    , drop-set-lt (at + c .args .k) o (at + f) v (omega arith) ∙ c .loop-f .inv .1 )
+    let e : v ≡ getD (nibbles (suc f) w) f 0 = c .nibble .ensures .value (suc f) (omega arith) in (
+      field-more (c .args .out .now) o at f w v (omega arith) (c .loop-f .inv .0) e,
+      drop-set-lt (at + c .args .k) o (at + f) v (omega arith) ∙ c .loop-f .inv .1,
+    )

@@ -17,9 +17,10 @@ loop-n-again c =
     let n = c .loop-n .n in
     let o = c .loop-n .out in
     let o′ = c .write-fields .last .out in
-    let e = set (c .args .out .now) at (c .args .once) in
-    ( written-more e o o′ (c .args .state .now) at (c .args .once) n (c .loop-n .inv .0) (c .write-fields .ensures .written)
-    , drop-further (at + (1 + 4 * n) + 4) (at + (9 + 4 * c .args .threads)) o′ o (omega arith) (c .write-fields .ensures .behind) ∙ c .loop-n .inv .1 )
+    let e = set (c .args .out .now) at (c .args .once) in (
+      written-more e o o′ (c .args .state .now) at (c .args .once) n (c .loop-n .inv .0) (c .write-fields .ensures .written),
+      drop-further (at + (1 + 4 * n) + 4) (at + (9 + 4 * c .args .threads)) o′ o (omega arith) (c .write-fields .ensures .behind) ∙ c .loop-n .inv .1,
+    )
 
 pub returns : need.returns
 returns c =
@@ -32,7 +33,7 @@ returns c =
     let e = set (c .args .out .now) at once in
     let q : c .loop-n .n ≡ k = omega arith in
     let w : Written e o ws at once k = subst (Written e o ws at once) q (c .loop-n .inv .0) in
-    record
-      { written = λ s h. written-all e o o′ ws at once k s h (c .pre .words) w (c .write-fields-2 .ensures .written) ∙ ap (λ (z : List ℕ). z ++ (once ∷ outcome s)) (take-set (c .args .out .now) at once)
-      ; behind = drop-further (at + (1 + 4 * k) + 8) (at + (9 + 4 * k)) o′ o (omega arith) (c .write-fields-2 .ensures .behind) ∙ c .loop-n .inv .1 ∙ drop-set-lt (at + (9 + 4 * k)) (c .args .out .now) at once (omega arith)
-      }
+    record {
+      written = λ s h. written-all e o o′ ws at once k s h (c .pre .words) w (c .write-fields-2 .ensures .written) ∙ ap (λ (z : List ℕ). z ++ (once ∷ outcome s)) (take-set (c .args .out .now) at once);
+      behind = drop-further (at + (1 + 4 * k) + 8) (at + (9 + 4 * k)) o′ o (omega arith) (c .write-fields-2 .ensures .behind) ∙ c .loop-n .inv .1 ∙ drop-set-lt (at + (9 + 4 * k)) (c .args .out .now) at once (omega arith);
+    }
