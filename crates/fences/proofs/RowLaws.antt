@@ -3,6 +3,7 @@ use mathlib.Core.Path.{_≡_, refl, sym, ap, subst, _∙_}
 use mathlib.Core.Bool.{Bool, true, false}
 use mathlib.Core.List.{List, [], _∷_, _++_, append-assoc, append-nil}
 use Prim.Native.Nat.{ℕ, zero, suc, _+_, _*_, _-_, _<_, _≤_}
+use native.Mathlib.Nat.{mul-suc}
 use native.Mathlib.Numerals.{add-one}
 use native.Mathlib.Omega.{arith}
 use lib.ListN.{length, length-append, take, drop}
@@ -102,3 +103,26 @@ behind-more o o₁ o₂ ws at end all w h e =
     let a : drop all o₂ ≡ drop all o₁ =
         ap (λ k. drop k o₂) s ∙ sym (drop-drop (all - end) end o₂) ∙ ap (drop (all - end)) (w .behind) ∙ drop-drop (all - end) end o₁ ∙ ap (λ k. drop k o₁) (sym s) in
     a ∙ e
+pub length-one : (p : Prog) (q cost : List ℕ) (i : ℕ) → done-at p q i ≡ true → length (text (one-row p q cost i)) ≡ suc (length (outcome (state (length p) q i)))
+length-one p q cost i d =
+    ap (λ (b : Bool). length (text (pick b (row-of p q cost i ∷ []) []))) d ∙ ap length (append-nil (row-of p q cost i .once ∷ outcome (state (length p) q i)))
+-- an outcome of a state found
+pub length-found : (p : Program) (q g : List ℕ) (n i : ℕ) → Explored (program p) q g n → i < n → length (outcome (state (length (program p)) q i)) ≡ 8 + 4 * p .count
+length-found p q g n i ex h =
+    let (ms, r) = ex .found .come i h in
+    let l = run-threads (program p) ms (state (length (program p)) q i) r in
+    let e = length-outcome (rec q (width (length (program p))) i) (state (length (program p)) q i) (ex .found .good i h) in
+    let k = length-program p in
+    omega arith
+length-rows : (p : Program) (q g cost : List ℕ) (n k i : ℕ) → Explored (program p) q g n → i + k ≤ n → length (text (rows-from (program p) q cost i k)) ≡ (9 + 4 * p .count) * length (rows-from (program p) q cost i k)
+length-rows p q g cost n zero i ex h = omega arith
+length-rows p q g cost n (suc k) i ex h =
+    let rest = length-rows p q g cost n k (suc i) ex (omega arith) in
+    by-row (done-at (program p) q i) (row-of (program p) q cost i) (rows-from (program p) q cost (suc i) k) (length-found p q g n i ex (omega arith)) rest
+  where
+    by-row : (b : Bool) (r : Row) (rs : List Row) → length (r .outcome) ≡ 8 + 4 * p .count → length (text rs) ≡ (9 + 4 * p .count) * length rs → length (text (pick b (r ∷ rs) rs)) ≡ (9 + 4 * p .count) * length (pick b (r ∷ rs) rs)
+    by-row true r rs l e = let a = length-append (r .once ∷ r .outcome) (text rs) in let m = mul-suc (9 + 4 * p .count) (length rs) in omega arith
+    by-row false r rs l e = e
+-- how many words all rows take
+pub length-all : (p : Program) (q g cost : List ℕ) (n : ℕ) → Explored (program p) q g n → length (text (rows-from (program p) q cost 0 n)) ≡ (9 + 4 * p .count) * length (rows-from (program p) q cost 0 n)
+length-all p q g cost n ex = length-rows p q g cost n n 0 ex (omega arith)
