@@ -2,3 +2,4 @@
 pub mod Sharing
 pub mod AllOutcomes
 pub mod RowLaws
+pub mod Listed

@@ -3,7 +3,7 @@ use mathlib.Core.Path.{_≡_}
 use mathlib.Core.Logic.{_↔_}
 use mathlib.Core.List.{List}
 use mathlib.Core.Option.{some}
-use Prim.Native.Nat.{ℕ, _+_, _*_, _<_}
+use Prim.Native.Nat.{ℕ, _+_, _*_, _^_, _<_, _≤_}
 use lib.ListN.{length, take, drop}
 use Rattle.model.specs.Code.{Prog, Reads}
 use Rattle.model.specs.Machine.{St, Move, moves, begin}
@@ -16,6 +16,22 @@ use Rattle.fences.specs.Listing.{Row, text, Lists}
 -- runs come to exactly so many states
 abbrev pub States : Prog → ℕ → Type 0
 States p n = (q : List St) × All-come-to p q × Different q × ((ms : List Move) (s : St) → moves p (begin p) ms ≡ some s → Among s q) × (n ≡ length q)
+
+-- what is said of a program p whose states are found
+abbrev pub ListedFound : Prog → List ℕ → List ℕ → Listed → Type 0
+ListedFound p o o′ (listed.Outcomes k n) = (rs : List Row) × Lists p rs × States p n × (k ≡ length rs) × (take (length (text rs)) o′ ≡ text rs) × (drop (length (text rs)) o′ ≡ drop (length (text rs)) o)
+ListedFound p o o′ listed.OutFull = (rs : List Row) × Lists p rs × (length o < length (text rs)) × (o′ ≡ o)
+ListedFound p o o′ listed.Crowded = ⊥
+ListedFound p o o′ listed.NoProgram = ⊥
+ListedFound p o o′ listed.Few = ⊥
+
+-- what is said of a program p with w words lent
+abbrev pub ListedOf : Prog → ℕ → List ℕ → List ℕ → Listed → Type 0
+ListedOf p w o o′ (listed.Outcomes k n) = (rs : List Row) × Lists p rs × States p n × (k ≡ length rs) × (take (length (text rs)) o′ ≡ text rs) × (drop (length (text rs)) o′ ≡ drop (length (text rs)) o)
+ListedOf p w o o′ listed.Crowded = ((m : ℕ) → m < 2 ^ 32 → 65536 + 128 * (m + 1) ≤ w → Crowded p m) × (o′ ≡ o)
+ListedOf p w o o′ listed.OutFull = (rs : List Row) × Lists p rs × (length o < length (text rs)) × (o′ ≡ o)
+ListedOf p w o o′ listed.NoProgram = ⊥
+ListedOf p w o o′ listed.Few = ⊥
 
 -- 'outcomes'
 abbrev pub ListedSays : List ℕ → ℕ → List ℕ → List ℕ → Listed → Type 0

@@ -5,11 +5,16 @@ ghost use Prim.Native.Nat.{ℕ, _+_, _*_, _<_, _≤_};
 ghost use lib.ListN.{length};
 ghost use Rattle.lent.specs.Records.{rec};
 ghost use Rattle.program.specs.Meaning.{program};
-ghost use Rattle.explore.specs.Found.{width, Explored};
+ghost use Rattle.explore.specs.Found.{width, moves-of, Explored};
 ghost use Rattle.fences.specs.Listing.{text};
 ghost use Rattle.fences.specs.Rows.{one-row, rows-from, Wrote};
+ghost use Rattle.fences.specs.Says.{ListedFound, ListedOf, ListedPost};
+use crate::sizes::states_that_fit;
+use explore::explore::explore;
 use once::finished::finished;
+use once::marks::mark_at_once;
 use program::threads::Program;
+use program::words::from_words;
 use report::outcomes::write_outcome;
 
 // So many outcomes, of so many states; or why not.
@@ -79,4 +84,52 @@ fn write_rows(p: &Program, queue: &[u32], cost: &[u32], n: usize, out: &mut [u32
     for i in 0..n {
         at = write_row(p, queue, cost, n, i, out, at);
     }
+}
+
+// The outcomes of a program whose states are found. What the table took serves for the marks.
+fn list_found(p: &Program, n: usize, queue: &[u32], edges: &[u32], table: &mut [u32], out: &mut [u32]) -> Listed
+    requires explored { ⌜ Explored (program (now p)) (now queue) (now edges) n ⌝ }
+    requires held { ⌜ n * width (length (program (now p))) ≤ length (now queue) ⌝ }
+    requires kept { ⌜ n * moves-of (length (program (now p))) ≤ length (now edges) ⌝ }
+    requires room { ⌜ 2 * n ≤ length (now table) ⌝ }
+    ensures { λ r. ⌜ ListedFound (program (now (p .entry))) (now (out .entry)) (now (out .exit)) r ⌝ }
+{
+    let (cost, from) = table.split_at_mut(n);
+    mark_at_once(p, edges, n, cost, from);
+    let count = count_finished(p, queue, n);
+    if count > out.len() / (9 + 4 * p.count) {
+        return Listed::OutFull;
+    }
+    write_rows(p, queue, cost, n, out);
+    Listed::Outcomes(count, n)
+}
+
+// The outcomes of a program, in lent words.
+fn list(p: &Program, out: &mut [u32], work: &mut [u32]) -> Listed
+    requires { ⌜ 65536 ≤ length (now work) ⌝ }
+    ensures { λ r. ⌜ ListedOf (program (now (p .entry))) (length (now (work .entry))) (now (out .entry)) (now (out .exit)) r ⌝ }
+{
+    let words = 1 + 3 * p.count;
+    let limit = states_that_fit(p.count, work.len());
+    let (key, rest) = work.split_at_mut(words);
+    let (queue, rest) = rest.split_at_mut(limit * words);
+    let (edges, table) = rest.split_at_mut(limit * (2 * p.count));
+    match explore(p, limit, queue, table, edges, key) {
+        None => Listed::Crowded,
+        Some(n) => list_found(p, n, queue, edges, table, out),
+    }
+}
+
+// All outcomes of the program that the words are, in at most `most` states: into `out` a row for each, 1 if it also
+// comes out at once, else 0, then all registers, thread by thread, and memory.
+pub fn outcomes(words: &[u32], most: u32, out: &mut [u32], work: &mut [u32]) -> Listed
+    ensures { λ r. ⌜ ListedPost (now (words .entry)) most (length (now (work .entry))) (now (out .entry)) (now (out .exit)) r ⌝ }
+{
+    if work.len() < 65536 + 128 * (most as usize + 1) {
+        return Listed::Few;
+    }
+    let Some(p) = from_words(words) else {
+        return Listed::NoProgram;
+    };
+    list(&p, out, work)
 }
