@@ -1,7 +1,7 @@
 -- Sets told by their bits: when two are the same, one within another, one numerically below another.
 use mathlib.Core.Path.{_≡_, refl, sym, ap, _∙_}
-use mathlib.Core.Logic.{_⊎_, inl, inr}
-use Prim.Native.Nat.{ℕ, zero, suc, _+_, _*_, _-_, _/_, _%_, _^_, _≤_, _<_, min, max}
+use mathlib.Core.Logic.{inl, inr}
+use Prim.Native.Nat.{ℕ, zero, suc, _+_, _-_, _/_, _%_, _^_, _≤_, _<_, min, max}
 use native.Mathlib.Omega.{arith}
 use native.Mathlib.Nat.{pow-suc, div-one}
 use native.Mathlib.Numerals.{add-one}
@@ -11,7 +11,7 @@ use lib.Pow.{shr-shr, pow-pos, field, mod-mod-pow}
 use Rattle.std.proofs.shelf.Bits.{div-below}
 use Rattle.std.proofs.shelf.Tests.{cases-lt, cases-eq}
 use Rattle.hitting.specs.Masks.{bit, Within}
-use Rattle.hitting.proofs.Halves.{cases-digit, within-half, within-digit, within-from}
+use Rattle.hitting.proofs.Halves.{cases-digit, within-from}
 
 pub bit-is : (x b : ℕ) → bit x b ≡ x / 2 ^ b % 2
 unfolding bit
@@ -91,20 +91,32 @@ bits-within (suc n) x u h e =
     (bits-within n (x / 2) (u / 2) (omega arith) (λ b l o. sym (bit-more u b) ∙ e (suc b) (omega arith) (bit-more x b ∙ o)))
     (elim (cases-digit x) [ inl z ↦ omega arith | inr o ↦ let f = d (a ∙ o) in omega arith ])
 
+-- agreement above a bit, by halves
+above-none : (x y : ℕ) → x / 2 ≡ y / 2 → (c : ℕ) → 0 < c → bit x c ≡ bit y c
+above-none x y e zero k = absurd (omega arith)
+above-none x y e (suc c) k = bit-more x c ∙ ap (λ m. bit m c) e ∙ sym (bit-more y c)
+
+above-more : (x y b : ℕ) → ((c : ℕ) → b < c → bit (x / 2) c ≡ bit (y / 2) c) → (c : ℕ) → suc b < c → bit x c ≡ bit y c
+above-more x y b s zero k = absurd (omega arith)
+above-more x y b s (suc c) k = bit-more x c ∙ s c (omega arith) ∙ sym (bit-more y c)
+
+above-half : (x y b : ℕ) → ((c : ℕ) → b < c → bit x c ≡ bit y c) → (c : ℕ) → b < suc c → bit (x / 2) c ≡ bit (y / 2) c
+above-half x y b s c k = sym (bit-more x c) ∙ s (suc c) k ∙ bit-more y c
+
 -- of two numbers the greater has the highest bit in which they differ
 pub highest-differs : (n x y : ℕ) → y < 2 ^ n → x < y → (b : ℕ) × (b < n) × (bit y b ≡ 1) × (bit x b ≡ 0) × ((c : ℕ) → b < c → bit x c ≡ bit y c)
 highest-differs zero x y h l = absurd (omega arith)
 highest-differs (suc n) x y h l =
     let p = pow-suc 2 n in
-    elim (cases-lt (x / 2) (y / 2))
-    [ inl lt ↦
-      let (b, i, o, z, s) = highest-differs n (x / 2) (y / 2) (omega arith) lt in
-      (suc b, omega arith, bit-more y b ∙ o, bit-more x b ∙ z, λ c. elim c as (λ c. suc b < c → bit x c ≡ bit y c) [ zero ↦ λ k. absurd (omega arith) | suc c ↦ λ k. bit-more x c ∙ s c (omega arith) ∙ sym (bit-more y c) ])
-    | inr ge ↦
-      let a = bit-none x in
-      let d = bit-none y in
-      let e : x / 2 ≡ y / 2 = omega arith in
-      (0, omega arith, omega arith, omega arith, λ c. elim c as (λ c. 0 < c → bit x c ≡ bit y c) [ zero ↦ λ k. absurd (omega arith) | suc c ↦ λ k. bit-more x c ∙ ap (λ m. bit m c) e ∙ sym (bit-more y c) ])
+    elim (cases-lt (x / 2) (y / 2)) [
+      | inl lt ↦
+          let (b, i, o, z, s) = highest-differs n (x / 2) (y / 2) (omega arith) lt in
+          (suc b, omega arith, bit-more y b ∙ o, bit-more x b ∙ z, above-more x y b s)
+      | inr ge ↦
+          let a = bit-none x in
+          let d = bit-none y in
+          let e : x / 2 ≡ y / 2 = omega arith in
+          (0, omega arith, omega arith, omega arith, above-none x y e)
     ]
 
 pub differs-highest : (n x y b : ℕ) → x < 2 ^ n → y < 2 ^ n → bit y b ≡ 1 → bit x b ≡ 0 → ((c : ℕ) → b < c → bit x c ≡ bit y c) → x < y
@@ -113,11 +125,12 @@ differs-highest (suc n) x y zero h k o z s =
     let p = pow-suc 2 n in
     let a = bit-none x in
     let d = bit-none y in
-    let e = same-bits n (x / 2) (y / 2) (omega arith) (omega arith) (λ c l. sym (bit-more x c) ∙ s (suc c) (omega arith) ∙ bit-more y c) in
+    let e = same-bits n (x / 2) (y / 2) (omega arith) (omega arith) (λ c l. above-half x y 0 s c (omega arith)) in
     omega arith
 differs-highest (suc n) x y (suc b) h k o z s =
     let p = pow-suc 2 n in
-    let i = differs-highest n (x / 2) (y / 2) b (omega arith) (omega arith) (sym (bit-more y b) ∙ o) (sym (bit-more x b) ∙ z) (λ c l. sym (bit-more x c) ∙ s (suc c) (omega arith) ∙ bit-more y c) in
+    let i = differs-highest n (x / 2) (y / 2) b (omega arith) (omega arith) (sym (bit-more y b) ∙ o) (sym (bit-more x b) ∙ z)
+    (λ c l. above-half x y (suc b) s c (omega arith)) in
     omega arith
 
 -- two sets meet if they share a bit
@@ -132,6 +145,34 @@ shared-bit n x y h m =
 
 pub bit-shared : (x y b : ℕ) → bit x b ≡ 1 → bit y b ≡ 1 → 0 < bitAnd x y
 bit-shared x y b e f = some-bit (bitAnd x y) b (let a = bit-and x y b in omega arith)
+
+-- one bit by itself
+pub bit-one : (b : ℕ) → bit (2 ^ b) b ≡ 1
+bit-one zero = bit-none 1
+bit-one (suc b) =
+    let p = pow-suc 2 b in
+    let h : 2 ^ suc b / 2 ≡ 2 ^ b = omega arith in
+    bit-more (2 ^ suc b) b ∙ ap (λ m. bit m b) h ∙ bit-one b
+
+pub bit-other : (b c : ℕ) → (c ≡ b → ⊥) → bit (2 ^ b) c ≡ 0
+bit-other zero zero n = absurd (n refl)
+bit-other zero (suc c) n = bit-past 1 1 (suc c) (omega arith) (omega arith)
+bit-other (suc b) zero n = let p = pow-suc 2 b in let a = bit-none (2 ^ suc b) in omega arith
+bit-other (suc b) (suc c) n =
+    let p = pow-suc 2 b in
+    let h : 2 ^ suc b / 2 ≡ 2 ^ b = omega arith in
+    bit-more (2 ^ suc b) c ∙ ap (λ m. bit m c) h ∙ bit-other b c (λ e. n (ap suc e))
+
+pub has-bit : (n x b : ℕ) → x < 2 ^ n → 0 < bitAnd x (2 ^ b) → bit x b ≡ 1
+has-bit n x b h m =
+    let (c, i, o, one) = shared-bit n x (2 ^ b) h m in
+    elim (cases-eq c b) [
+      | inl e ↦ ap (bit x) (sym e) ∙ o
+      | inr ne ↦ let z = bit-other b c ne in absurd (omega arith)
+    ]
+
+pub bit-has : (x b : ℕ) → bit x b ≡ 1 → 0 < bitAnd x (2 ^ b)
+bit-has x b o = bit-shared x (2 ^ b) b o (bit-one b)
 
 -- x without one of its bits
 pub without-bit : (x b : ℕ) → bit x b ≡ 1 → (2 ^ b ≤ x) × (ones x ≡ suc (ones (x - 2 ^ b)))

@@ -1,11 +1,11 @@
 -- The facts behind each jump of the search: what no candidate can be among the sets that it passes over.
 use mathlib.Core.Path.{_≡_, refl, sym, ap, _∙_}
-use mathlib.Core.Logic.{_⊎_, inl, inr}
-use Prim.Native.Nat.{ℕ, zero, suc, _+_, _*_, _-_, _/_, _%_, _^_, _≤_, _<_, min, max}
+use mathlib.Core.Logic.{inl, inr}
+use Prim.Native.Nat.{ℕ, zero, suc, _+_, _*_, _-_, _/_, _%_, _^_, _≤_, _<_}
 use native.Mathlib.Omega.{arith}
 use native.Mathlib.Nat.{mul-assoc, pow-suc, div-one, mul-one}
 use lib.Arith.{bin-ind}
-use lib.Bits.{bitAnd, bitOr, and-step, or-step, and-zero-r, or-zero-r, and-le-r, and-le-l, and-self}
+use lib.Bits.{bitAnd, bitOr, and-step, or-step, or-zero-r, and-le-l, and-self}
 use lib.Count.{ones, ones-step, trailingZeros, under}
 use lib.Pow.{shr-shr, pow-pos}
 use Rattle.std.proofs.shelf.Tests.{cases-eq, cases-lt}
@@ -17,21 +17,21 @@ pub next-below : (y u z : ℕ) → Within y u → Within z u → z < y → z ≤
 next-below =
     bin-ind (λ y. (u z : ℕ) → Within y u → Within z u → z < y → z ≤ bitAnd (y - 1) u) (λ u z a b h. absurd (omega arith))
     (λ y ih u z a b h.
-      let s = and-step (y - 1) u in
-      let ay = within-half y u a in
-      let bz = within-half z u b in
-      let bd = within-digit z u b in
-      elim (cases-digit y)
-      [ inl e ↦
-        let m : (y - 1) / 2 ≡ y / 2 - 1 = omega arith in
-        let g = ap (λ n. bitAnd n (u / 2)) m in
-        let i = ih (u / 2) (z / 2) ay bz (omega arith) in
-        omega arith
+    let s = and-step (y - 1) u in
+    let ay = within-half y u a in
+    let bz = within-half z u b in
+    let bd = within-digit z u b in
+    elim (cases-digit y) [
+      | inl e ↦
+          let m : (y - 1) / 2 ≡ y / 2 - 1 = omega arith in
+          let g = ap (λ n. bitAnd n (u / 2)) m in
+          let i = ih (u / 2) (z / 2) ay bz (omega arith) in
+          omega arith
       | inr e ↦
-        let m : (y - 1) / 2 ≡ y / 2 = omega arith in
-        let g = ap (λ n. bitAnd n (u / 2)) m in
-        omega arith
-      ])
+          let m : (y - 1) / 2 ≡ y / 2 = omega arith in
+          let g = ap (λ n. bitAnd n (u / 2)) m in
+          omega arith
+    ])
 
 -- x without its lowest bit, by halves
 module _ (x : ℕ) where
@@ -45,55 +45,55 @@ module _ (x : ℕ) where
 
   lowest-even : x % 2 ≡ 0 → bitAnd x (x - 1) ≡ bitAnd (x / 2) (x / 2 - 1) * 2
   lowest-even e =
-      elim (cases-eq x 0)
-      [ inl z ↦ ap (λ n. bitAnd n (n - 1)) z ∙ sym (ap (λ n. bitAnd (n / 2) (n / 2 - 1) * 2) z)
-      | inr p ↦
-        let m : (x - 1) / 2 ≡ x / 2 - 1 = omega arith in
-        let g = ap (bitAnd (x / 2)) m in
-        let s = and-step x (x - 1) in
-        omega arith
+      elim (cases-eq x 0) [
+        | inl z ↦ ap (λ n. bitAnd n (n - 1)) z ∙ sym (ap (λ n. bitAnd (n / 2) (n / 2 - 1) * 2) z)
+        | inr p ↦
+            let m : (x - 1) / 2 ≡ x / 2 - 1 = omega arith in
+            let g = ap (bitAnd (x / 2)) m in
+            let s = and-step x (x - 1) in
+            omega arith
       ]
 
 pub lowest-ones : (x : ℕ) → 0 < x → ones x ≡ suc (ones (bitAnd x (x - 1)))
 lowest-ones =
     bin-ind (λ x. 0 < x → ones x ≡ suc (ones (bitAnd x (x - 1)))) (λ h. absurd (omega arith))
     (λ x ih h.
-      let a = ones-step x in
-      let b = ones-step (bitAnd x (x - 1)) in
-      elim (cases-digit x)
-      [ inl e ↦
-        let l = lowest-even x e in
-        let d : bitAnd x (x - 1) / 2 ≡ bitAnd (x / 2) (x / 2 - 1) = omega arith in
-        let g = ap ones d in
-        let i = ih (omega arith) in
-        omega arith
+    let a = ones-step x in
+    let b = ones-step (bitAnd x (x - 1)) in
+    elim (cases-digit x) [
+      | inl e ↦
+          let l = lowest-even x e in
+          let d : bitAnd x (x - 1) / 2 ≡ bitAnd (x / 2) (x / 2 - 1) = omega arith in
+          let g = ap ones d in
+          let i = ih (omega arith) in
+          omega arith
       | inr e ↦
-        let l = lowest-odd x e in
-        let d : bitAnd x (x - 1) / 2 ≡ x / 2 = omega arith in
-        let g = ap ones d in
-        omega arith
-      ])
+          let l = lowest-odd x e in
+          let d : bitAnd x (x - 1) / 2 ≡ x / 2 = omega arith in
+          let g = ap ones d in
+          omega arith
+    ])
 
 -- the sets between x without its lowest bit and x have as many bits as x, or more
 pub between-ones : (x z : ℕ) → bitAnd x (x - 1) < z → z < x → ones x ≤ ones z
 between-ones =
     bin-ind (λ x. (z : ℕ) → bitAnd x (x - 1) < z → z < x → ones x ≤ ones z) (λ z h k. absurd (omega arith))
     (λ x ih z h k.
-      let a = ones-step x in
-      let b = ones-step z in
-      elim (cases-digit x)
-      [ inl e ↦
-        let l = lowest-even x e in
-        elim (cases-lt (bitAnd (x / 2) (x / 2 - 1)) (z / 2))
-        [ inl lt ↦ let i = ih (z / 2) lt (omega arith) in omega arith
-        | inr ge ↦
-          let same : z / 2 ≡ bitAnd (x / 2) (x / 2 - 1) = omega arith in
-          let g = ap ones same in
-          let i = lowest-ones (x / 2) (omega arith) in
-          omega arith
-        ]
+    let a = ones-step x in
+    let b = ones-step z in
+    elim (cases-digit x) [
+      | inl e ↦
+          let l = lowest-even x e in
+          elim (cases-lt (bitAnd (x / 2) (x / 2 - 1)) (z / 2)) [
+            | inl lt ↦ let i = ih (z / 2) lt (omega arith) in omega arith
+            | inr ge ↦
+                let same : z / 2 ≡ bitAnd (x / 2) (x / 2 - 1) = omega arith in
+                let g = ap ones same in
+                let i = lowest-ones (x / 2) (omega arith) in
+                omega arith
+          ]
       | inr e ↦ let l = lowest-odd x e in absurd (omega arith)
-      ])
+    ])
 
 -- x with its t lowest bits left out
 pub floor : ℕ → ℕ → ℕ
@@ -124,6 +124,7 @@ floor-within (suc t) x u e =
     let h : floor (suc t) x / 2 ≡ floor t (x / 2) = omega arith in
     within-from (floor (suc t) x) u (rw h (floor-within t (x / 2) (u / 2) (within-half x u e))) (omega arith)
 
+-- the lowest bit of a set by halves
 pub trailing-none : (n : ℕ) → trailingZeros 0 n ≡ 0
 unfolding trailingZeros
 trailing-none n = refl
@@ -136,18 +137,6 @@ pub trailing-odd : (k n : ℕ) → n % 2 ≡ 1 → trailingZeros (suc k) n ≡ 0
 unfolding trailingZeros
 trailing-odd k n e = ap (λ d. under d (trailingZeros k (n / 2))) e
 
-pub trailing-lt : (k n : ℕ) → 0 < n → n < 2 ^ k → trailingZeros k n < k
-trailing-lt zero n p h = absurd (omega arith)
-trailing-lt (suc k) n p h =
-    elim (cases-digit n)
-    [ inl e ↦
-      let t = trailing-even k n e in
-      let q = pow-suc 2 k in
-      let i = trailing-lt k (n / 2) (omega arith) (omega arith) in
-      omega arith
-    | inr e ↦ let t = trailing-odd k n e in omega arith
-    ]
-
 -- what agrees with x from the lowest bit of c up misses c if x does
 pub misses-above : (k c x z : ℕ) → floor (trailingZeros k c) x ≤ z → z ≤ x → bitAnd x c ≡ 0 → bitAnd z c ≡ 0
 misses-above zero c x z l h e =
@@ -157,19 +146,19 @@ misses-above zero c x z l h e =
     let same : z ≡ x = omega arith in
     rw same e
 misses-above (suc k) c x z l h e =
-    elim (cases-digit c)
-    [ inl d ↦
-      let g = ap (λ n. floor n x) (trailing-even k c d) in
-      let f = floor-more (trailingZeros k (c / 2)) x in
-      let s = and-step x c in
-      let r = and-step z c in
-      let i = misses-above k (c / 2) (x / 2) (z / 2) (omega arith) (omega arith) (omega arith) in
-      omega arith
-    | inr d ↦
-      let g = ap (λ n. floor n x) (trailing-odd k c d) in
-      let f = floor-none x in
-      let same : z ≡ x = omega arith in
-      rw same e
+    elim (cases-digit c) [
+      | inl d ↦
+          let g = ap (λ n. floor n x) (trailing-even k c d) in
+          let f = floor-more (trailingZeros k (c / 2)) x in
+          let s = and-step x c in
+          let r = and-step z c in
+          let i = misses-above k (c / 2) (x / 2) (z / 2) (omega arith) (omega arith) (omega arith) in
+          omega arith
+      | inr d ↦
+          let g = ap (λ n. floor n x) (trailing-odd k c d) in
+          let f = floor-none x in
+          let same : z ≡ x = omega arith in
+          rw same e
     ]
 
 -- what of u lies outside x: x misses it, and a set within u that misses it has no more bits than x
@@ -183,24 +172,24 @@ pub rest-apart : (x u : ℕ) → Within x u → bitAnd x (u - x) ≡ 0
 rest-apart =
     bin-ind (λ x. (u : ℕ) → Within x u → bitAnd x (u - x) ≡ 0) (λ u e. refl)
     (λ x ih u e.
-      let (q, r) = rest-half u x e in
-      let g = ap (bitAnd (x / 2)) q in
-      let s = and-step x (u - x) in
-      let i = ih (u / 2) (within-half x u e) in
-      omega arith)
+    let (q, r) = rest-half u x e in
+    let g = ap (bitAnd (x / 2)) q in
+    let s = and-step x (u - x) in
+    let i = ih (u / 2) (within-half x u e) in
+    omega arith)
 
 pub rest-ones : (z x u : ℕ) → Within x u → Within z u → bitAnd z (u - x) ≡ 0 → ones z ≤ ones x
 rest-ones =
     bin-ind (λ z. (x u : ℕ) → Within x u → Within z u → bitAnd z (u - x) ≡ 0 → ones z ≤ ones x) (λ x u a b e. let n = ones-none in omega arith)
     (λ z ih x u a b e.
-      let (q, r) = rest-half u x a in
-      let g = ap (bitAnd (z / 2)) q in
-      let s = and-step z (u - x) in
-      let d = within-digit z u b in
-      let m = ones-step z in
-      let n = ones-step x in
-      let i = ih (x / 2) (u / 2) (within-half x u a) (within-half z u b) (omega arith) in
-      omega arith)
+    let (q, r) = rest-half u x a in
+    let g = ap (bitAnd (z / 2)) q in
+    let s = and-step z (u - x) in
+    let d = within-digit z u b in
+    let m = ones-step z in
+    let n = ones-step x in
+    let i = ih (x / 2) (u / 2) (within-half x u a) (within-half z u b) (omega arith) in
+    omega arith)
 
 -- the greatest set within u up to m, where j is the highest bit of m outside u: all of u below that bit may come in
 pub fill : ℕ → ℕ → ℕ → ℕ
@@ -241,9 +230,9 @@ fill-lt (suc j) m u l h =
 pub fill-greatest : (j m u z : ℕ) → 2 ^ j ≤ m - bitAnd m u → m - bitAnd m u < 2 ^ suc j → Within z u → z ≤ m → z ≤ fill j m u
 fill-greatest zero m u z l h w b =
     let f = fill-none m u in
-    elim (cases-eq z m)
-    [ inl e ↦ let g = ap (λ n. bitAnd n u) e in absurd (omega arith)
-    | inr n ↦ omega arith
+    elim (cases-eq z m) [
+      | inl e ↦ let g = ap (λ n. bitAnd n u) e in absurd (omega arith)
+      | inr n ↦ omega arith
     ]
 fill-greatest (suc j) m u z l h w b =
     let f = fill-more j m u in

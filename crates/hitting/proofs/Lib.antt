@@ -1,4 +1,4 @@
--- Laws of sets of bits.
+-- Laws of sets of bits: by halves, for the jumps and steps of the search, for clauses, by bits and as lists of spots.
 pub mod Halves
 pub mod Jumps
 pub mod Steps

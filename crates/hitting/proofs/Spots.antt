@@ -10,9 +10,9 @@ use lib.ListN.{length}
 use lib.Count.{ones, ones-cat}
 use lib.Pow.{split, high, low, pow-pos, pow-mono}
 use Rattle.std.proofs.shelf.Bits.{mod-below}
-use Rattle.std.proofs.shelf.Tests.{cases-lt, cases-eq, cases-order}
+use Rattle.std.proofs.shelf.Tests.{cases-eq, cases-order}
 use Rattle.hitting.specs.Masks.{bit}
-use Rattle.hitting.specs.Spots.{mask-of, with-spot, spots, spots-of, Ascends, In, Before}
+use Rattle.hitting.specs.Spots.{mask-of, with-spot, spots, Ascends, In, Before}
 use Rattle.hitting.proofs.Halves.{ones-none}
 use Rattle.hitting.proofs.Bits.{half-high, bit-low, bit-high}
 
@@ -77,17 +77,17 @@ spots-mask zero s [] e a = refl
 spots-mask zero s (t ∷ ts) e (a, b, c) = absurd (omega arith)
 spots-mask (suc n) s [] e a = spots-low n s 0 (pow-pos n) ∙ spots-mask n (suc s) [] (omega arith) tt
 spots-mask (suc n) s (t ∷ ts) e (a, b, c) =
-    elim (cases-eq t s)
-    [ inl same ↦
-      let i : 31 - t ≡ n = omega arith in
-      let d : Ascends (suc s) ts = ascends-from (suc s) (suc t) ts (omega arith) c in
-      ap (λ k. spots (suc n) s (2 ^ k + mask-of ts)) i
-      ∙ spots-high n s (mask-of ts) (mask-lt n (suc s) ts (omega arith) d)
-      ∙ ap (λ l. s ∷ l) (spots-mask n (suc s) ts (omega arith) d)
-      ∙ ap (λ r. r ∷ ts) (sym same)
-    | inr other ↦
-      spots-low n s (mask-of (t ∷ ts)) (mask-lt n (suc s) (t ∷ ts) (omega arith) (omega arith, b, c))
-      ∙ spots-mask n (suc s) (t ∷ ts) (omega arith) (omega arith, b, c)
+    elim (cases-eq t s) [
+      | inl same ↦
+          let i : 31 - t ≡ n = omega arith in
+          let d : Ascends (suc s) ts = ascends-from (suc s) (suc t) ts (omega arith) c in
+          ap (λ k. spots (suc n) s (2 ^ k + mask-of ts)) i
+          ∙ spots-high n s (mask-of ts) (mask-lt n (suc s) ts (omega arith) d)
+          ∙ ap (λ l. s ∷ l) (spots-mask n (suc s) ts (omega arith) d)
+          ∙ ap (λ r. r ∷ ts) (sym same)
+      | inr other ↦
+          spots-low n s (mask-of (t ∷ ts)) (mask-lt n (suc s) (t ∷ ts) (omega arith) (omega arith, b, c))
+          ∙ spots-mask n (suc s) (t ∷ ts) (omega arith) (omega arith, b, c)
     ]
 
 -- as many spots as bits
@@ -123,15 +123,15 @@ unfolding spots
 in-spots zero s x t e h i = absurd i
 in-spots (suc n) s x t e h i =
     let q = half-high n x h in
-    elim (in-with (x / 2 ^ n) s t (spots n (suc s) (x % 2 ^ n)) i)
-    [ inl here ↦
-      let (p, same) = here in
-      let b : 31 - t ≡ n = omega arith in
-      let o = bit-high n x h in
-      (omega arith, omega arith, ap (bit x) b ∙ omega arith)
-    | inr more ↦
-      let (a, b, o) = in-spots n (suc s) (x % 2 ^ n) t (omega arith) (low-lt n x) more in
-      (omega arith, b, sym (bit-low n x (31 - t) (omega arith)) ∙ o)
+    elim (in-with (x / 2 ^ n) s t (spots n (suc s) (x % 2 ^ n)) i) [
+      | inl here ↦
+          let (p, same) = here in
+          let b : 31 - t ≡ n = omega arith in
+          let o = bit-high n x h in
+          (omega arith, omega arith, ap (bit x) b ∙ omega arith)
+      | inr more ↦
+          let (a, b, o) = in-spots n (suc s) (x % 2 ^ n) t (omega arith) (low-lt n x) more in
+          (omega arith, b, sym (bit-low n x (31 - t) (omega arith)) ∙ o)
     ]
 
 pub spots-in : (n s x t : ℕ) → n + s ≡ 32 → x < 2 ^ n → s ≤ t → t < 32 → bit x (31 - t) ≡ 1 → In t (spots n s x)
@@ -139,15 +139,15 @@ unfolding spots
 spots-in zero s x t e h a b o = absurd (omega arith)
 spots-in (suc n) s x t e h a b o =
     with-in (x / 2 ^ n) s t (spots n (suc s) (x % 2 ^ n))
-    (elim (cases-eq t s)
-      [ inl same ↦
-        let i : 31 - t ≡ n = omega arith in
-        let q = bit-high n x h in
-        let r = ap (bit x) i in
-        inl (omega arith, same)
+    (elim (cases-eq t s) [
+      | inl same ↦
+          let i : 31 - t ≡ n = omega arith in
+          let q = bit-high n x h in
+          let r = ap (bit x) i in
+          inl (omega arith, same)
       | inr other ↦
-        inr (spots-in n (suc s) (x % 2 ^ n) t (omega arith) (low-lt n x) (omega arith) b (bit-low n x (31 - t) (omega arith) ∙ o))
-      ])
+          inr (spots-in n (suc s) (x % 2 ^ n) t (omega arith) (low-lt n x) (omega arith) b (bit-low n x (31 - t) (omega arith) ∙ o))
+    ])
 
 -- the greater of two sets with equally many bits has the earlier list
 before-later : (s : ℕ) (ss ts : List ℕ) → Ascends (suc s) ts → length ts ≡ suc (length ss) → Before (s ∷ ss) ts
@@ -192,11 +192,11 @@ before-both (s ∷ ss) (t ∷ ts) (inr (e, a)) (inr (f, b)) = before-both ss ts 
 
 pub before-greater : (n s x y : ℕ) → n + s ≡ 32 → x < 2 ^ n → y < 2 ^ n → length (spots n s x) ≡ length (spots n s y) → Before (spots n s x) (spots n s y) → y < x
 before-greater n s x y e h k l b =
-    elim (cases-order y x)
-    [ inl same ↦ absurd (before-same (spots n s x) (let f = ap (spots n s) same in rw f at b))
-    | inr o ↦
-      elim o
-      [ inl less ↦ less
-      | inr more ↦ absurd (before-both (spots n s x) (spots n s y) b (greater-before n s y x e k h (sym l) more))
-      ]
+    elim (cases-order y x) [
+      | inl same ↦ absurd (before-same (spots n s x) (let f = ap (spots n s) same in rw f at b))
+      | inr o ↦
+          elim o [
+            | inl less ↦ less
+            | inr more ↦ absurd (before-both (spots n s x) (spots n s y) b (greater-before n s y x e k h (sym l) more))
+          ]
     ]

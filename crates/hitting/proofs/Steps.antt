@@ -1,19 +1,19 @@
 -- What one step of the search gives, as the functions' contracts have it.
-use mathlib.Core.Path.{_≡_, refl, sym, ap, _∙_}
-use mathlib.Core.Logic.{_⊎_, inl, inr}
+use mathlib.Core.Path.{_≡_, sym, ap, _∙_}
+use mathlib.Core.Logic.{inl, inr}
 use mathlib.Core.List.{List}
-use Prim.Native.Nat.{ℕ, zero, suc, _+_, _*_, _-_, _/_, _%_, _^_, _≤_, _<_}
+use Prim.Native.Nat.{ℕ, zero, suc, _*_, _-_, _/_, _%_, _^_, _≤_, _<_}
 use native.Mathlib.Omega.{arith}
-use native.Mathlib.Nat.{mod-eq-of-lt}
-use lib.Bits.{bitAnd, bitOr, and-le-l, and-le-r, and-zero-r}
+use lib.Bits.{bitAnd, bitOr, and-le-l, and-le-r}
 use lib.Count.{ones, leadingZeros, leading-top, trailingZeros}
-use Rattle.std.proofs.shelf.Bits.{one-shl, pow-pos}
+use Rattle.std.proofs.shelf.Bits.{one-shl}
 use Rattle.std.proofs.shelf.Tests.{cases-lt, cases-order}
 use Rattle.hitting.specs.Masks.{Within}
-use Rattle.hitting.specs.Post.{Greatest, Lowered, Passed, Unmet, Candidate, Next, Fails}
+use Rattle.hitting.specs.Post.{Greatest, Lowered, Passed, Unmet, Fails}
 use Rattle.hitting.proofs.Halves.{ones-none, within-trans, and-within-l, and-within-r}
 use Rattle.hitting.proofs.Jumps.{next-below, lowest-ones, between-ones, floor, floor-is, floor-le, floor-within, misses-above, rest-apart, rest-ones, fill, fill-is, fill-lt, fill-greatest}
 
+-- `greatest_within`
 pub leading-small : (m u : ℕ) → m < 2 ^ 32 → (bitAnd m u ≡ m → ⊥) → leadingZeros 32 (m - bitAnd m u) ≤ 31
 leading-small m u h n =
     let l = and-le-l m u in
@@ -26,26 +26,28 @@ greatest-fill m u h n =
     let (j, e, a, b) = leading-top 32 (m - bitAnd m u) (omega arith) (omega arith) in
     let i : 31 - leadingZeros 32 (m - bitAnd m u) ≡ j = omega arith in
     let r : bitAnd (bitOr m ((1 * 2 ^ (31 - leadingZeros 32 (m - bitAnd m u))) % 2 ^ 32 - 1)) u ≡ fill j m u =
-        ap (λ k. bitAnd (bitOr m ((1 * 2 ^ k) % 2 ^ 32 - 1)) u) i
-        ∙ ap (λ p. bitAnd (bitOr m (p - 1)) u) (one-shl j 32 (omega arith))
-        ∙ sym (fill-is j m u) in
+    ap (λ k. bitAnd (bitOr m ((1 * 2 ^ k) % 2 ^ 32 - 1)) u) i
+    ∙ ap (λ p. bitAnd (bitOr m (p - 1)) u) (one-shl j 32 (omega arith))
+    ∙ sym (fill-is j m u) in
     let t = fill-lt j m u a b in
-    record
-      { below = omega arith
-      ; within = and-within-r _ u
-      ; none = λ z k g w. let s = fill-greatest j m u z a b w g in omega arith
-      }
+    record {
+      below = omega arith;
+      within = and-within-r _ u;
+      none = λ z k g w. let s = fill-greatest j m u z a b w g in omega arith;
+    }
 
+-- `without_lowest`
 pub lowered : (x : ℕ) → 0 < x → Lowered x (bitAnd x (x - 1))
 lowered x p =
     let l = and-le-r x (x - 1) in
-    record
-      { below = omega arith
-      ; within = and-within-l x (x - 1)
-      ; fewer = lowest-ones x p
-      ; between = between-ones x
-      }
+    record {
+      below = omega arith;
+      within = and-within-l x (x - 1);
+      fewer = lowest-ones x p;
+      between = between-ones x;
+    }
 
+-- `next_without`
 module _ (x mark : ℕ) (h : x < 2 ^ 32) (e : bitAnd x mark ≡ 0) where
   kept-is : (x / 2 ^ trailingZeros 32 mark * 2 ^ trailingZeros 32 mark) % 2 ^ 32 ≡ floor (trailingZeros 32 mark) x
   kept-is =
@@ -65,23 +67,25 @@ module _ (x mark : ℕ) (h : x < 2 ^ 32) (e : bitAnd x mark ≡ 0) where
       let k = kept-is in
       let a = and-le-l (y - 1) u in
       let g : bitAnd ((x / 2 ^ trailingZeros 32 mark * 2 ^ trailingZeros 32 mark) % 2 ^ 32 - 1) u ≡ bitAnd (y - 1) u = ap (λ m. bitAnd (m - 1) u) k in
-      record
-        { below = omega arith
-        ; within = and-within-r _ u
-        ; missed = λ z b d i.
-          elim (cases-lt z y)
-          [ inl lt ↦ let s = next-below y u z (floor-within (trailingZeros 32 mark) x u w) i lt in absurd (omega arith)
-          | inr ge ↦ misses-above 32 mark x z ge d e
-          ]
-        }
-
-pub too-few : (cs : List ℕ) (u n x : ℕ) → Within x u → ones x < n → Unmet cs u n x (u - x)
-too-few cs u n x w h =
-    record
-      { missed = rest-apart x u w
-      ; needed = λ z e i s. let l = rest-ones z x u w i e in absurd (omega arith)
+      record {
+        below = omega arith;
+        within = and-within-r _ u;
+        missed = λ z b d i.
+            elim (cases-lt z y) [
+              | inl lt ↦ let s = next-below y u z (floor-within (trailingZeros 32 mark) x u w) i lt in absurd (omega arith)
+              | inr ge ↦ misses-above 32 mark x z ge d e
+            ];
       }
 
+-- `unmet`
+pub too-few : (cs : List ℕ) (u n x : ℕ) → Within x u → ones x < n → Unmet cs u n x (u - x)
+too-few cs u n x w h =
+    record {
+      missed = rest-apart x u w;
+      needed = λ z e i s. let l = rest-ones z x u w i e in absurd (omega arith);
+    }
+
+-- `next_candidate`
 pub some-bit : (n x : ℕ) → n < ones x → 0 < x
 some-bit n zero h = let e = ones-none in absurd (omega arith)
 some-bit n (suc x) h = omega arith
@@ -92,42 +96,16 @@ pub record Down (cs : List ℕ) (u n m x : ℕ) : Type 0 where
   pub within : Within x u
   pub none : (z : ℕ) → x < z → z ≤ m → Fails cs u n z
 
-pub down-start : (cs : List ℕ) (u n m x : ℕ) → Greatest u m x → Down cs u n m x
-down-start cs u n m x g = record { below = g .below; within = g .within; none = λ z a b w. absurd (g .none z a b w) }
-
--- from a set with too many bits
+-- from a set with too many bits it goes on without the lowest
 pub down-lowered : (cs : List ℕ) (u n m x y : ℕ) → Down cs u n m x → n < ones x → Lowered x y → Down cs u n m y
 down-lowered cs u n m x y d h l =
-    record
-      { below = let a = d .below in let b = l .below in omega arith
-      ; within = within-trans y x u (l .within) (d .within)
-      ; none = λ z a b w s.
-        elim (cases-order z x)
-        [ inl e ↦ let g = ap ones e in absurd (omega arith)
-        | inr o ↦
-          elim o [ inl lt ↦ let g = l .between z a lt in absurd (omega arith) | inr gt ↦ d .none z gt b w s ]
-        ]
-      }
-
--- from a set that misses what every candidate meets
-pub down-passed : (cs : List ℕ) (u n m x mark y : ℕ) → Down cs u n m x → Unmet cs u n x mark → Passed u mark x y → Down cs u n m y
-down-passed cs u n m x mark y d f p =
-    record
-      { below = let a = d .below in let b = p .below in omega arith
-      ; within = p .within
-      ; none = λ z a b w.
-        elim (cases-lt x z)
-        [ inl lt ↦ d .none z lt b w
-        | inr ge ↦ f .needed z (p .missed z a ge w) w
-        ]
-      }
-
-pub down-none : (cs : List ℕ) (u n m x mark : ℕ) → Down cs u n m x → Unmet cs u n x mark → ((z : ℕ) → z ≤ x → Within z u → bitAnd z mark ≡ 0) → (z : ℕ) → z ≤ m → Fails cs u n z
-down-none cs u n m x mark d f p z b w =
-    elim (cases-lt x z)
-    [ inl lt ↦ d .none z lt b w
-    | inr ge ↦ f .needed z (p z ge w) w
-    ]
-
-pub down-found : (cs : List ℕ) (u n m x : ℕ) → Down cs u n m x → Candidate cs u n x → Next cs u n m x
-down-found cs u n m x d f = record { below = d .below; candidate = f; first = d .none }
+    record {
+      below = let a = d .below in let b = l .below in omega arith;
+      within = within-trans y x u (l .within) (d .within);
+      none = λ z a b w s.
+          elim (cases-order z x) [
+            | inl e ↦ let g = ap ones e in absurd (omega arith)
+            | inr o ↦
+                elim o [ inl lt ↦ let g = l .between z a lt in absurd (omega arith) | inr gt ↦ d .none z gt b w s ]
+          ];
+    }

@@ -1,5 +1,5 @@
 -- Clauses and what they have in all: a set of the fewest bits that meets them has no bit outside.
-use mathlib.Core.Path.{_≡_, refl, sym, ap, _∙_}
+use mathlib.Core.Path.{_≡_, refl, ap, _∙_}
 use mathlib.Core.Logic.{_⊎_, inl, inr}
 use mathlib.Core.List.{List, [], _∷_, _++_}
 use Prim.Native.Nat.{ℕ, zero, suc, _+_, _≤_, _<_}
@@ -13,7 +13,7 @@ use Rattle.hitting.specs.Masks.{Within, Meets, Misses}
 use Rattle.hitting.specs.Post.{Union, Fails}
 use Rattle.hitting.proofs.Halves.{within-trans, and-within-l, and-within-r, within-ones, within-same, and-clause, or-within, within-or-l, within-or-r}
 
--- every clause lies within u
+-- the first n clauses lie within u
 abbrev pub Hold : List ℕ → ℕ → ℕ → Type 0
 Hold cs n u = (k : ℕ) → k < n → Within (getD cs k 0) u
 
@@ -24,16 +24,16 @@ pub fewest-within : (cs : List ℕ) (u n x : ℕ) → Hold cs (length cs) u → 
 fewest-within cs u n x w none e m =
     let a = and-within-l x u in
     let less : ones x ≤ ones (bitAnd x u) → Within x u = within-same (bitAnd x u) x a in
-    elim (cases-lt (ones (bitAnd x u)) n)
-    [ inl lt ↦ absurd (none (bitAnd x u) lt (meets-within cs u x w m))
-    | inr ge ↦ less (omega arith)
+    elim (cases-lt (ones (bitAnd x u)) n) [
+      | inl lt ↦ absurd (none (bitAnd x u) lt (meets-within cs u x w m))
+      | inr ge ↦ less (omega arith)
     ]
 
 pub hold-more : (cs : List ℕ) (n u : ℕ) → Hold cs n u → Hold cs (n + 1) (bitOr u (getD cs n 0))
 hold-more cs n u w k h =
-    elim (cases-eq k n)
-    [ inl e ↦ rw e (within-or-r u (getD cs n 0))
-    | inr ne ↦ within-trans (getD cs k 0) u (bitOr u (getD cs n 0)) (w k (omega arith)) (within-or-l u (getD cs n 0))
+    elim (cases-eq k n) [
+      | inl e ↦ rw e (within-or-r u (getD cs n 0))
+      | inr ne ↦ within-trans (getD cs k 0) u (bitOr u (getD cs n 0)) (w k (omega arith)) (within-or-l u (getD cs n 0))
     ]
 
 -- u lies within every set that every clause lies within
@@ -50,13 +50,13 @@ union-is cs u w l = record { holds = w; least = l; fewest = λ n x. fewest-withi
 pub misses-or-meets : (cs : List ℕ) (x : ℕ) → Misses cs x ⊎ Meets cs x
 misses-or-meets [] x = inr (λ k h. absurd (omega arith))
 misses-or-meets (c ∷ cs) x =
-    elim (cases-eq (bitAnd x c) 0)
-    [ inl e ↦ inl (0, omega arith, e)
-    | inr n ↦
-      elim (misses-or-meets cs x)
-      [ inl m ↦ let (k, h, e) = m in inl (suc k, omega arith, e)
-      | inr m ↦ inr (λ k. elim k as (λ k. k < length (c ∷ cs) → 0 < bitAnd x (getD (c ∷ cs) k 0)) [ zero ↦ λ h. omega arith | suc k ↦ λ h. m k (omega arith) ])
-      ]
+    elim (cases-eq (bitAnd x c) 0) [
+      | inl e ↦ inl (0, omega arith, e)
+      | inr n ↦
+          elim (misses-or-meets cs x) [
+            | inl m ↦ let (k, h, e) = m in inl (suc k, omega arith, e)
+            | inr m ↦ inr (λ k. elim k as (λ k. k < length (c ∷ cs) → 0 < bitAnd x (getD (c ∷ cs) k 0)) [ zero ↦ λ h. omega arith | suc k ↦ λ h. m k (omega arith) ])
+          ]
     ]
 
 pub misses-not-meets : (cs : List ℕ) (x : ℕ) → Misses cs x → Meets cs x → ⊥
@@ -79,7 +79,7 @@ none-fewer cs u n w f z h m =
 
 pub none-anywhere : (cs : List ℕ) (u n z : ℕ) → Hold cs (length cs) u → ((y : ℕ) → ones y < n → Meets cs y → ⊥) → Fails cs u n z → ones z ≡ n → Misses cs z
 none-anywhere cs u n z w none f e =
-    elim (misses-or-meets cs z)
-    [ inl m ↦ m
-    | inr m ↦ f (fewest-within cs u n z w none e m) e
+    elim (misses-or-meets cs z) [
+      | inl m ↦ m
+      | inr m ↦ f (fewest-within cs u n z w none e m) e
     ]

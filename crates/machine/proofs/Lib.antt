@@ -4,3 +4,4 @@ pub mod Did
 pub mod PackLaws
 pub mod StateLaws
 pub mod MoveLaws
+pub mod Unpacking

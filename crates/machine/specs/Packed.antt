@@ -36,6 +36,19 @@ pairs (suc k) v x = record { place = x % 16 % 8; val = v % 16 } ∷ pairs k (v /
 abbrev pub unpack-at : ℕ → ℕ → ℕ → At
 unpack-at w v x = record { pc = w / 65536 % 16; regs = nibbles 4 w; waits = pairs (w / 1048576) v x }
 
+-- the n threads that words are, three words to each
+abbrev pub unpack-ts : ℕ → List ℕ → List At
+unpack-ts zero ws = []
+unpack-ts (suc n) [] = []
+unpack-ts (suc n) (w ∷ []) = []
+unpack-ts (suc n) (w ∷ v ∷ []) = []
+unpack-ts (suc n) (w ∷ v ∷ x ∷ ws) = unpack-at w v x ∷ unpack-ts n ws
+
+-- the state of n threads that words are
+unfoldable pub unpack : ℕ → List ℕ → St
+unpack n [] = record { mem = nibbles 8 0; threads = [] }
+unpack n (m ∷ ws) = record { mem = nibbles 8 m; threads = unpack-ts n ws }
+
 -- a thread that fits its words: every run's does
 pub record Within-at (a : At) : Type 0 where
   pub four : length (a .regs) ≡ 4

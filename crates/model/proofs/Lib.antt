@@ -5,6 +5,7 @@ pub mod OneProgram
 pub mod AlsoWaiting
 pub mod RunsUnderGuards
 pub mod RunLength
+pub mod Levels
 pub mod OneEnd
 pub mod Orders
 pub mod EnoughFences

@@ -1,4 +1,3 @@
-use borrow.Author.Needs.{needs}
 use lib.Bits.{and-le-l}
 use native.Mathlib.Omega.{arith}
 use Rattle.hitting.proofs.Steps.{leading-small, greatest-fill}

@@ -10,7 +10,7 @@ loop-i-holds c = (omega arith, hash-none (c .args .key .now))
 pub loop-i-again : need.loop-i-again
 loop-i-again c = (
   omega arith,
-  hash-more (c .args .key .now) (c .loop-i .h) (c .stirred-h .result) (c .loop-i .i) (hash-of (c .args .key .now)) (c .loop-i-test .taken) (c .stirred-h .ensures) (c .loop-i .inv .1),
+  hash-more (c .args .key .now) (c .loop-i .h) (c .stirred-h .result) (c .loop-i .i) (hash-of (c .args .key .now)) (omega arith) (c .stirred-h .ensures) (c .loop-i .inv .1),
 )
 
 pub returns-then-i-key : need.returns-then-i-key

@@ -1,0 +1,3 @@
+-- Lemmas on exploration.
+pub mod MoveNumbers
+pub mod Finding

@@ -1,0 +1,3 @@
+-- What exploration promises, by the model's definitions.
+pub mod Found
+pub mod Post

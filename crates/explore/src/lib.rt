@@ -1,0 +1,4 @@
+// Exploration of all states that runs with waiting stores come to, breadth first, in lent words.
+pub mod enter;
+pub mod steps;
+pub mod visit;
