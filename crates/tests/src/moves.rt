@@ -34,43 +34,73 @@ fn words_of(heap: Global, threads: &[&[[u32; 4]]]) -> Result<Vec<u32>, Fail> {
 
 fn check_run(heap: Global, run: Run<'_>) -> Result<(), Fail> {
     let words = words_of(heap, run.threads)?;
-    let p = from_words(words.as_slice()).ok_or("refused")?;
+    let Some(p) = from_words(words.as_slice()) else {
+        return Err(Fail::new("refused"));
+    };
     let width = 1 + 3 * p.count;
-    let mut state = [0; 13];
-    let mut spare = [0; 13];
-    let made = play(&p, run.turns, &mut state[0..width], &mut spare[0..width]);
+    let mut first = [0; 13];
+    let mut second = [0; 13];
+    let state = &mut first[0..width];
+    let made = play(&p, run.turns, state, &mut second[0..width]);
     check_eq(made, run.made)?;
-    check_eq(&state[0..width], run.state)
+    check_eq(&*state, run.state)
 }
 
-// A thread does eight instructions, and then lets eight stores go.
-const EIGHT_AND_EIGHT: [Turn; 16] = [
-    Next(0), Next(0), Next(0), Next(0), Next(0), Next(0), Next(0), Next(0),
-    Out(0), Out(0), Out(0), Out(0), Out(0), Out(0), Out(0), Out(0),
+// Eight instructions, and then eight stores going.
+const EIGHT_AND_EIGHT: &[Turn] = &[
+    Next(0),
+    Next(0),
+    Next(0),
+    Next(0),
+    Next(0),
+    Next(0),
+    Next(0),
+    Next(0),
+    Out(0),
+    Out(0),
+    Out(0),
+    Out(0),
+    Out(0),
+    Out(0),
+    Out(0),
+    Out(0),
 ];
+
+const EIGHT_STORES: &[[u32; 4]] = &[
+    [3, 0, 0, 0],
+    [3, 1, 0, 0],
+    [3, 2, 0, 0],
+    [3, 3, 0, 0],
+    [3, 4, 0, 0],
+    [3, 5, 0, 0],
+    [3, 6, 0, 0],
+    [3, 7, 0, 0],
+];
+
+const SEVEN_STORES_OF_15: &[[u32; 4]] = &[
+    [0, 0, 15, 0],
+    [3, 1, 0, 0],
+    [3, 2, 0, 0],
+    [3, 3, 0, 0],
+    [3, 4, 0, 0],
+    [3, 5, 0, 0],
+    [3, 6, 0, 0],
+    [3, 7, 0, 0],
+];
+
+// 1 and then 2 to place 0, which is then read.
+const TWO_STORES: &[[u32; 4]] = &[
+    [0, 0, 1, 0],
+    [3, 0, 0, 0],
+    [0, 0, 2, 0],
+    [3, 0, 0, 0],
+    [2, 1, 0, 0],
+];
+
+const STORE_AND_FENCE: &[[u32; 4]] = &[[0, 0, 1, 0], [3, 0, 0, 0], [4, 0, 0, 0]];
 
 #[test]
 fn edges(rt: LibcRuntime) -> Result<(), Fail> {
-    let eight_stores: &[[u32; 4]] = &[
-        [3, 0, 0, 0],
-        [3, 1, 0, 0],
-        [3, 2, 0, 0],
-        [3, 3, 0, 0],
-        [3, 4, 0, 0],
-        [3, 5, 0, 0],
-        [3, 6, 0, 0],
-        [3, 7, 0, 0],
-    ];
-    let seven_stores: &[[u32; 4]] = &[
-        [0, 0, 15, 0],
-        [3, 1, 0, 0],
-        [3, 2, 0, 0],
-        [3, 3, 0, 0],
-        [3, 4, 0, 0],
-        [3, 5, 0, 0],
-        [3, 6, 0, 0],
-        [3, 7, 0, 0],
-    ];
     let runs = [
         // a thread does no more than it has to do, and lets no store go where none waits
         Run {
@@ -101,27 +131,26 @@ fn edges(rt: LibcRuntime) -> Result<(), Fail> {
         },
         // eight stores wait, and then none
         Run {
-            threads: &[eight_stores],
-            turns: &EIGHT_AND_EIGHT[0..8],
+            threads: &[EIGHT_STORES],
+            turns: &[Next(0); 8],
             made: 8,
             state: &[0, 0x88_0000, 0, 0x7654_3210],
         },
         Run {
-            threads: &[eight_stores],
-            turns: &EIGHT_AND_EIGHT,
+            threads: &[EIGHT_STORES],
+            turns: EIGHT_AND_EIGHT,
             made: 16,
             state: &[0, 0x8_0000, 0, 0],
         },
-        // seven stores of a number other than 0: three have gone, and then all
         Run {
-            threads: &[seven_stores],
-            turns: &EIGHT_AND_EIGHT[0..11],
-            made: 11,
-            state: &[0xfff0, 0x48_000f, 0xffff, 0x7654],
+            threads: &[SEVEN_STORES_OF_15],
+            turns: &[Next(0); 8],
+            made: 8,
+            state: &[0, 0x78_000f, 0xfff_ffff, 0x765_4321],
         },
         Run {
-            threads: &[seven_stores],
-            turns: &EIGHT_AND_EIGHT,
+            threads: &[SEVEN_STORES_OF_15],
+            turns: EIGHT_AND_EIGHT,
             made: 15,
             state: &[0xffff_fff0, 0x8_000f, 0, 0],
         },
@@ -134,14 +163,6 @@ fn edges(rt: LibcRuntime) -> Result<(), Fail> {
 
 #[test]
 fn waiting_stores(rt: LibcRuntime) -> Result<(), Fail> {
-    let two_stores: &[[u32; 4]] = &[
-        [0, 0, 1, 0],
-        [3, 0, 0, 0],
-        [0, 0, 2, 0],
-        [3, 0, 0, 0],
-        [2, 1, 0, 0],
-    ];
-    let store_and_fence: &[[u32; 4]] = &[[0, 0, 1, 0], [3, 0, 0, 0], [4, 0, 0, 0]];
     let runs = [
         // a thread sees its own store that waits: 5, and not memory's 0
         Run {
@@ -152,20 +173,20 @@ fn waiting_stores(rt: LibcRuntime) -> Result<(), Fail> {
         },
         // of two it sees the newer one: 2, and not 1
         Run {
-            threads: &[two_stores],
-            turns: &EIGHT_AND_EIGHT[0..5],
+            threads: &[TWO_STORES],
+            turns: &[Next(0), Next(0), Next(0), Next(0), Next(0)],
             made: 5,
             state: &[0, 0x25_0022, 0x21, 0],
         },
         // the older one goes first, so that memory holds 1, and then 2
         Run {
-            threads: &[two_stores],
+            threads: &[TWO_STORES],
             turns: &[Next(0), Next(0), Next(0), Next(0), Out(0)],
             made: 5,
             state: &[1, 0x14_0002, 2, 0],
         },
         Run {
-            threads: &[two_stores],
+            threads: &[TWO_STORES],
             turns: &[Next(0), Next(0), Next(0), Next(0), Out(0), Out(0)],
             made: 6,
             state: &[2, 0x4_0002, 0, 0],
@@ -179,37 +200,46 @@ fn waiting_stores(rt: LibcRuntime) -> Result<(), Fail> {
         },
         // a fence waits for its thread's store, passes when it has gone, and waits for no other thread's
         Run {
-            threads: &[store_and_fence],
+            threads: &[STORE_AND_FENCE],
             turns: &[Next(0), Next(0), Next(0)],
             made: 2,
             state: &[0, 0x12_0001, 1, 0],
         },
         Run {
-            threads: &[store_and_fence],
+            threads: &[STORE_AND_FENCE],
             turns: &[Next(0), Next(0), Out(0), Next(0)],
             made: 4,
             state: &[1, 0x3_0001, 0, 0],
         },
         Run {
-            threads: &[store_and_fence, &[[4, 0, 0, 0]]],
+            threads: &[STORE_AND_FENCE, &[[4, 0, 0, 0]]],
             turns: &[Next(0), Next(0), Next(1)],
             made: 3,
             state: &[0, 0x12_0001, 1, 0, 0x1_0000, 0, 0],
         },
         // another thread sees a store only when it has gone to memory
         Run {
-            threads: &[store_and_fence, &[[2, 0, 0, 0], [2, 1, 0, 0]]],
+            threads: &[STORE_AND_FENCE, &[[2, 0, 0, 0], [2, 1, 0, 0]]],
             turns: &[Next(0), Next(0), Next(1), Out(0), Next(1)],
             made: 5,
             state: &[1, 0x2_0001, 0, 0, 0x2_0010, 0, 0],
         },
-        // so that two threads can store, and each read 0 where the other stored 1
+        // so two threads can both store 1 and then both read 0 where the other stored
         Run {
             threads: &[
                 &[[0, 0, 1, 0], [3, 0, 0, 0], [2, 1, 1, 0]],
                 &[[0, 0, 1, 0], [3, 1, 0, 0], [2, 1, 0, 0]],
             ],
-            turns: &[Next(0), Next(1), Next(0), Next(1), Next(0), Next(1), Out(0), Out(1)],
+            turns: &[
+                Next(0),
+                Next(1),
+                Next(0),
+                Next(1),
+                Next(0),
+                Next(1),
+                Out(0),
+                Out(1),
+            ],
             made: 8,
             state: &[0x11, 0x3_0001, 0, 0, 0x3_0001, 0, 0],
         },

@@ -98,7 +98,9 @@ fn no_instruction() -> Result<(), Fail> {
 
 // The words are a program, and its words are these again.
 fn check_back(heap: Global, words: &[u32]) -> Result<(), Fail> {
-    let p = from_words(words).ok_or("refused")?;
+    let Some(p) = from_words(words) else {
+        return Err(Fail::new("refused"));
+    };
     let back = to_words(heap, &p)?;
     check_eq(back.as_slice(), words)
 }
@@ -134,12 +136,21 @@ fn there_and_back(rt: LibcRuntime) -> Result<(), Fail> {
 
 #[test]
 fn instructions_by_number() -> Result<(), Fail> {
-    let p = from_words(&[2, 0, 2, 0, 3, 15, 0, 3, 7, 3, 0]).ok_or("refused")?;
+    let Some(p) = from_words(&[2, 0, 2, 0, 3, 15, 0, 3, 7, 3, 0]) else {
+        return Err(Fail::new("refused"));
+    };
     let first = p.instruction(1, 0).ok_or("none")?;
     check_eq(instruction_to_words(first), [0, 3, 15, 0])?;
     let last = p.instruction(1, 1).ok_or("none")?;
     check_eq(instruction_to_words(last), [3, 7, 3, 0])?;
-    for (n, pc) in [(0, 0), (1, 2), (1, 8), (2, 0), (1, usize::MAX), (usize::MAX, 0)] {
+    for (n, pc) in [
+        (0, 0),
+        (1, 2),
+        (1, 8),
+        (2, 0),
+        (1, usize::MAX),
+        (usize::MAX, 0),
+    ] {
         check(p.instruction(n, pc).is_none()).note(pc)?;
     }
     Ok(())
