@@ -155,8 +155,8 @@ fn edges(rt: LibcRuntime) -> Result<(), Fail> {
             state: &[0xffff_fff0, 0x8_000f, 0, 0],
         },
     ];
-    for run in runs {
-        check_run(rt.alloc(), run)?;
+    for (i, run) in runs.iter().enumerate() {
+        check_run(rt.alloc(), *run).note(format_args!("run {i}"))?;
     }
     Ok(())
 }
@@ -244,8 +244,8 @@ fn waiting_stores(rt: LibcRuntime) -> Result<(), Fail> {
             state: &[0x11, 0x3_0001, 0, 0, 0x3_0001, 0, 0],
         },
     ];
-    for run in runs {
-        check_run(rt.alloc(), run)?;
+    for (i, run) in runs.iter().enumerate() {
+        check_run(rt.alloc(), *run).note(format_args!("run {i}"))?;
     }
     Ok(())
 }

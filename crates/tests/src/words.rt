@@ -52,7 +52,7 @@ fn no_program() -> Result<(), Fail> {
         &[1, 0x4000_0000],
     ];
     for (i, words) in refused.iter().enumerate() {
-        check(from_words(words).is_none()).note(i)?;
+        check(from_words(words).is_none()).note(format_args!("case {i}"))?;
     }
     Ok(())
 }
@@ -83,14 +83,14 @@ fn no_instruction() -> Result<(), Fail> {
         [5, 0, 0, 0],
     ];
     for row in refused {
-        check(from_words(&alone(row)).is_none()).note(row[0])?;
+        check(from_words(&alone(row)).is_none()).note(format_args!("{row:?}"))?;
     }
     // the greatest word in each place
     for row in EDGES {
         for k in 0..4 {
             let mut large = row;
             large[k] = u32::MAX;
-            check(from_words(&alone(large)).is_none()).note(k)?;
+            check(from_words(&alone(large)).is_none()).note(format_args!("{large:?}"))?;
         }
     }
     Ok(())
@@ -151,7 +151,7 @@ fn instructions_by_number() -> Result<(), Fail> {
         (1, usize::MAX),
         (usize::MAX, 0),
     ] {
-        check(p.instruction(n, pc).is_none()).note(pc)?;
+        check(p.instruction(n, pc).is_none()).note(format_args!("{n} {pc}"))?;
     }
     Ok(())
 }
