@@ -1,0 +1,3 @@
+-- Lemmas on lists of spots as bits.
+pub mod Positions
+pub mod Every
