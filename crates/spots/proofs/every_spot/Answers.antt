@@ -8,10 +8,13 @@ use Rattle.spots.proofs.Adding.{rows-more, rows-small}
 use Rattle.spots.proofs.every_spot.Needs as need
 
 pub add-bits : need.add-bits
-add-bits c = ?
+add-bits c =
+    let p = c .args .p .now in
+    let n = c .loop-n .n in
+    omega (arith, rows-more p n (c .index-p-n .result) (omega arith), rows-small p n (omega arith))
 
 pub loop-n-again : need.loop-n-again
-loop-n-again c = ?
+loop-n-again c = omega (arith, rows-more (c .args .p .now) (c .loop-n .n) (c .index-p-n .result) (omega arith))
 
 pub returns : need.returns
 returns c =
