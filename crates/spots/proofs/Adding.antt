@@ -1,21 +1,20 @@
 -- Adding bits up: one instruction more, one thread more, and the sum stays below 2 ^ 32.
-use mathlib.Core.Path.{_≡_, refl, sym, ap, subst, _∙_}
+use mathlib.Core.Path.{_≡_, sym, ap, subst, _∙_}
 use mathlib.Core.List.{List, [], _∷_, _++_, append-nil, append-assoc}
 use Prim.Native.Nat.{ℕ, zero, suc, _+_, _*_, _-_, _^_, _≤_, _<_}
 use native.Mathlib.Omega.{arith}
 use native.Mathlib.Numerals.{add-one}
-use lib.Dec.{T}
 use lib.ListN.{length, take, getD}
 use Rattle.std.proofs.shelf.Lists.{map-more, length-map, length-take-le}
-use Rattle.model.specs.Code.{Thread, Prog, ok}
+use Rattle.model.specs.Code.{Thread, Prog}
 use Rattle.program.specs.declared.threads.Thread as code
 use Rattle.program.specs.declared.threads.Program.{Program}
 use Rattle.program.specs.Meaning.{thread, threads, program}
 use Rattle.program.proofs.ReadProgram.{length-thread}
-use Rattle.program.proofs.WriteWords.{length-program, program-ok}
+use Rattle.program.proofs.WriteWords.{program-ok}
 use Rattle.hitting.specs.Spots.{mask-of, Ascends}
 use Rattle.hitting.proofs.Theorems.{set-of-spots}
-use Rattle.spots.specs.Masks.{row, rows, every-spot}
+use Rattle.spots.specs.Masks.{row, rows}
 use Rattle.spots.proofs.Every.{ascends-row, every-is, every-small}
 
 mask-append : (ps qs : List ℕ) → mask-of (ps ++ qs) ≡ mask-of ps + mask-of qs

@@ -2,9 +2,9 @@
 use mathlib.Core.Path.{_≡_, refl, sym, ap, subst, _∙_}
 use mathlib.Core.Logic.{_⊎_, inl, inr}
 use mathlib.Core.Bool.{_&&_}
-use mathlib.Core.List.{List, [], _∷_, _++_, append-nil, append-assoc}
+use mathlib.Core.List.{List, [], _∷_, _++_}
 use mathlib.Core.Option.{some}
-use Prim.Native.Nat.{ℕ, zero, suc, _+_, _*_, _-_, _/_, _%_, _^_, _≤_, _<_}
+use Prim.Native.Nat.{ℕ, zero, suc, _+_, _*_, _-_, _/_, _^_, _≤_, _<_}
 use native.Mathlib.Omega.{arith}
 use lib.Dec.{T, leb, leb→le}
 use lib.ListN.{length}
@@ -30,10 +30,10 @@ ok-rows p h =
     (leb→le (length p) 4 (and-left (leb (length p) 4) (ok-ts p) g), and-right (leb (length p) 4) (ok-ts p) g)
 
 ok-first : (t : Thread) (ts : Prog) → T (ok-ts (t ∷ ts)) → (length t ≤ 8) × T (ok-ts ts)
-ok-first t ts h =
-    ( leb→le (length t) 8 (and-left (leb (length t) 8) (ok-t t && ok-ts ts) h)
-    , and-right (ok-t t) (ok-ts ts) (and-right (leb (length t) 8) (ok-t t && ok-ts ts) h)
-    )
+ok-first t ts h = (
+  leb→le (length t) 8 (and-left (leb (length t) 8) (ok-t t && ok-ts ts) h),
+  and-right (ok-t t) (ok-ts ts) (and-right (leb (length t) 8) (ok-t t && ok-ts ts) h),
+)
 
 thread-short : (p : Prog) (n : ℕ) (t : Thread) → T (ok-ts p) → nth p n ≡ some t → length t ≤ 8
 thread-short [] n t h e = absurd (none-some e)

@@ -1,5 +1,5 @@
 -- The guards of a mask's spots are its bits, and a list of spots meets another only where masks share a bit.
-use mathlib.Core.Path.{_≡_, refl, sym, ap, subst, _∙_}
+use mathlib.Core.Path.{_≡_, refl, sym, ap, subst}
 use mathlib.Core.Bool.{Bool, true, false, _&&_}
 use mathlib.Core.List.{List}
 use Prim.Native.Nat.{ℕ, _+_, _*_, _-_, _^_, _<_}
@@ -10,15 +10,15 @@ use Rattle.std.proofs.shelf.Tests.{ltb-true, lt-ltb, eqb-true, eq-eqb, and-from
 use Rattle.model.specs.Code.{Prog, ok}
 use Rattle.model.specs.Fences.{Spot, Placed}
 use Rattle.model.specs.Guards.{guards, On, Meets}
-use Rattle.model.proofs.Tools.{false-true, and-both}
+use Rattle.model.proofs.Tools.{and-both}
 use Rattle.model.proofs.RunsUnderGuards.{on-guards, guards-on}
 use Rattle.hitting.specs.Masks.{bit}
 use Rattle.hitting.specs.Spots.{spots-of}
 use Rattle.hitting.proofs.Bits.{bit-shared}
 use Rattle.hitting.proofs.Theorems.{has-spot}
-use Rattle.spots.specs.Masks.{spot-of, position, spots, mask, masked}
+use Rattle.spots.specs.Masks.{position, spots, mask, masked}
 use Rattle.spots.proofs.Positions.{spot-position, on-spots, spots-on}
-use Rattle.spots.proofs.Lists.{placed-small, mask-bit}
+use Rattle.spots.proofs.Lists.{mask-small, spots-mask}
 
 -- tests that are true together are the same
 same-test : (a b : Bool) → (a ≡ true → b ≡ true) → (b ≡ true → a ≡ true) → a ≡ b
@@ -61,16 +61,18 @@ guards-masked x n k l = same-test (guards (spots x) n k) (masked x n k) there ba
 abbrev pub Covers : ℕ → List Spot → Type 0
 Covers c hs = (a : Spot) → On a hs → a .thread < 4 → a .index < 8 → bit c (31 - position a) ≡ 1
 
--- by a mask, and by a list placed in a program within the limits
+-- so a clause is met by a bit: by a mask's spots, and by a list placed in a program within the limits
 pub meets-bits : (x c : ℕ) (hs : List Spot) → x < 2 ^ 32 → Covers c hs → Meets (spots x) hs → 0 < bitAnd x c
 meets-bits x c hs l f (a, i, j) =
     let (k, b, o) = on-bit x a l i in
     bit-shared x c (31 - position a) o (f a j (omega arith) k)
 
 pub meets-mask : (p : Prog) (ss hs : List Spot) (c : ℕ) → T (ok p) → Placed p ss → Covers c hs → Meets ss hs → 0 < bitAnd (mask ss) c
-meets-mask p ss hs c h w f (a, i, j) =
-    let (n, k) = placed-small p h ss w a i in
-    bit-shared (mask ss) c (31 - position a) (mask-bit p h ss w a i) (f a j n k)
+meets-mask p ss hs c h w f m =
+    meets-bits (mask ss) c hs (mask-small p h ss w) f (subst (λ (z : List Spot). Meets z hs) (sym (spots-mask p h ss w)) m)
 
-pub misses-apart : (x c : ℕ) (hs : List Spot) → x < 2 ^ 32 → Covers c hs → bitAnd x c ≡ 0 → Meets (spots x) hs → ⊥
-misses-apart x c hs l f e m = let g = meets-bits x c hs l f m in omega arith
+pub misses-bits : (x c : ℕ) (hs : List Spot) → x < 2 ^ 32 → Covers c hs → bitAnd x c ≡ 0 → Meets (spots x) hs → ⊥
+misses-bits x c hs l f e m = let g = meets-bits x c hs l f m in omega arith
+
+pub misses-mask : (p : Prog) (ss hs : List Spot) (c : ℕ) → T (ok p) → Placed p ss → Covers c hs → bitAnd (mask ss) c ≡ 0 → Meets ss hs → ⊥
+misses-mask p ss hs c h w f e m = let g = meets-mask p ss hs c h w f m in omega arith

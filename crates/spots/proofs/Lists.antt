@@ -1,6 +1,6 @@
 -- Lists of spots placed in a program and masks within the mask of all its spots are one another: as many spots as
 -- bits, and the earlier of two lists of one length is the greater mask.
-use mathlib.Core.Path.{_≡_, refl, sym, ap, subst, _∙_}
+use mathlib.Core.Path.{_≡_, sym, ap, subst, _∙_}
 use mathlib.Core.Logic.{inl, inr}
 use mathlib.Core.List.{List, [], _∷_, _++_, map}
 use Prim.Native.Nat.{ℕ, _-_, _^_, _<_}
@@ -10,7 +10,7 @@ use lib.Dec.{T}
 use lib.ListN.{length}
 use Rattle.std.proofs.shelf.Lists.{length-map}
 use Rattle.model.specs.Code.{Prog, ok}
-use Rattle.model.specs.Fences.{Spot, In-order, First, Placed}
+use Rattle.model.specs.Fences.{Spot, First, Placed}
 use Rattle.model.specs.Guards.{On, on-first}
 use Rattle.model.proofs.RunsUnderGuards.{on-inv, on-right}
 use Rattle.hitting.specs.Masks.{bit, Within}
@@ -18,7 +18,7 @@ use Rattle.hitting.specs.Spots.{spots-of, mask-of, Ascends, In, Before}
 use Rattle.hitting.proofs.Bits.{bits-within, within-bit}
 use Rattle.hitting.proofs.Theorems.{spots-of-set, set-of-spots, as-many, has-spot, earlier-is-greater}
 use Rattle.spots.specs.Masks.{spot-of, position, spots, mask, every-spot}
-use Rattle.spots.proofs.Positions.{All-small, positions-spots, spots-positions, in-positions, positions-in, on-spots, placed-from, ascends-order, first-before}
+use Rattle.spots.proofs.Positions.{All-small, positions-spots, spots-positions, in-positions, on-spots, placed-from, ascends-order, first-before}
 use Rattle.spots.proofs.Every.{Inside, inside-small, every-bit, bit-every}
 
 -- what stands in a list splits it
@@ -52,9 +52,6 @@ module _ (p : Prog) (h : T (ok p)) (ss : List Spot) (w : Placed p ss) where
 
   pub ones-mask : ones (mask ss) ≡ length ss
   ones-mask = sym (as-many (mask ss) mask-small) ∙ ap length mask-positions ∙ length-map ss position
-
-  pub mask-bit : (a : Spot) → On a ss → bit (mask ss) (31 - position a) ≡ 1
-  mask-bit a x = has-spot (mask ss) (position a) mask-small .0 (subst (In (position a)) (sym mask-positions) (positions-in a ss x)) .1
 
   pub mask-within : Within (mask ss) (every-spot p)
   mask-within = bits-within 32 (mask ss) (every-spot p) mask-small at

@@ -1,8 +1,8 @@
 -- Spots and their positions: each is the other's, and their orders agree.
-use mathlib.Core.Path.{_≡_, refl, sym, ap, subst, _∙_}
-use mathlib.Core.Logic.{_⊎_, inl, inr}
-use mathlib.Core.List.{List, [], _∷_, _++_, map}
-use Prim.Native.Nat.{ℕ, zero, suc, _+_, _*_, _-_, _/_, _%_, _≤_, _<_}
+use mathlib.Core.Path.{_≡_, refl, ap, subst, _∙_}
+use mathlib.Core.Logic.{inl, inr}
+use mathlib.Core.List.{List, [], _∷_, map}
+use Prim.Native.Nat.{ℕ, suc, _+_, _*_, _/_, _%_, _≤_, _<_}
 use native.Mathlib.Omega.{arith}
 use Rattle.std.proofs.shelf.Tests.{cases-lt}
 use Rattle.model.specs.Fences.{Spot, Earlier, In-order, First, by-this, by-rest}
@@ -42,10 +42,6 @@ pub in-positions : (s : ℕ) (ss : List Spot) → In s (map position ss) → (a 
 in-positions s [] h = absurd h
 in-positions s (a ∷ ss) (inl e) = (a, on-first, e)
 in-positions s (a ∷ ss) (inr h) = let (b, x, e) = in-positions s ss h in (b, on-more x, e)
-
-pub positions-in : (a : Spot) (ss : List Spot) → On a ss → In (position a) (map position ss)
-positions-in a [] h = absurd (on-inv h)
-positions-in a (b ∷ ss) h = elim (on-inv h) [ inl e ↦ inl (ap position e) | inr k ↦ inr (positions-in a ss k) ]
 
 pub on-spots : (a : Spot) (ps : List ℕ) → On a (map spot-of ps) → (s : ℕ) × In s ps × (a ≡ spot-of s)
 on-spots a [] h = absurd (on-inv h)

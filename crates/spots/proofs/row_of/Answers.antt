@@ -1,5 +1,5 @@
 use native.Mathlib.Omega.{arith}
-use Prim.Native.Nat.{_+_, _*_, _-_, _<_}
+use Prim.Native.Nat.{_+_, _*_, _-_}
 use Rattle.std.proofs.shelf.Bits.{one-shl}
 use Rattle.spots.proofs.Adding.{mask-row-more, row-small}
 use Rattle.spots.proofs.row_of.Needs as need
