@@ -1,12 +1,16 @@
 // Programs made at random, as words.
 //
-// Programs with no bias are nearly all plain, so most are made from a known shape, a ring: each thread begins with a number
-// above 0 in a register, then has one access to its own place and one to the place of the next thread, and the last
-// thread's next is the first. The first access is mostly a store of that register and the second mostly a load, which is store
-// buffering; the others are message passing and its like. The places of a ring are any of the eight. Some threads are not in the ring:
-// these are empty, or have a few loads and stores of the ring's places. One program in six has no ring at all. To every
-// thread lines are added anywhere: numbers, sums, fences, more loads and stores, loads of what the thread itself has stored;
-// a line may be left out; and some threads are filled up to eight instructions.
+// Programs with no bias are nearly all plain, so most are made from a known shape, a ring: each thread has one access to a
+// place of its own and one to the place of the next thread, and the last thread's next is the first. The first access is
+// mostly a store and the second mostly a load, which is store buffering; the others give message passing, load buffering
+// and the like. A ring of few threads may go round twice, the second time over other places. The places of a ring are
+// any of the eight.
+//
+// Each thread begins with a number above 0 in one register, which it mostly stores; it loads into two others, and the
+// lines that read and write nothing mostly use the fourth, so that what was loaded is still seen at the end. Some threads are
+// not in the ring: they are empty, or have a few loads and stores of the ring's places. Some programs have no ring at all.
+// To every thread lines are added anywhere: numbers, sums, fences, more loads and stores, loads of what the thread itself
+// stores; a line may be left out; and some threads are filled up to eight instructions.
 //
 // All orders can be made only of few reads and writes, so their number is bounded for the whole program, and the number of
 // instructions is not.
@@ -30,11 +34,12 @@ pub struct Limits {
     pub events: u32,
 }
 
-// A program that is being made: how many threads are in the ring, which places it has, and how many reads and writes may
-// still be added.
+// A program that is being made: how many threads are in the ring, whether it goes round twice, which places it has, and how
+// many reads and writes may still be added.
 #[derive(Clone, Copy)]
 struct Plan {
     ring: u32,
+    twice: bool,
     start: u32,
     stride: u32,
     spare: u32,
@@ -49,26 +54,32 @@ fn some_register(random: &mut Random) -> Register {
     Register(random.below(4))
 }
 
+// The register that stands so many behind this one, the last before the first.
+fn behind(register: Register, by: u32) -> Register {
+    Register(register.0.wrapping_add(by) % 4)
+}
+
 // One of the three first places of the ring, and now and then another.
 fn some_place(random: &mut Random, plan: &Plan) -> Place {
     let i = if random.one_in(12) { random.below(8) } else { random.below(3) };
     ring_place(plan, i)
 }
 
+fn number(random: &mut Random, register: Register) -> Instruction {
+    Instruction::Set(register, 1 + random.below(15))
+}
+
 // A store, mostly of the register that has a number above 0.
 fn store(random: &mut Random, place: Place, full: Register) -> Instruction {
-    if random.one_in(8) {
+    if random.one_in(16) {
         return Instruction::Store(place, some_register(random));
     }
     Instruction::Store(place, full)
 }
 
-fn load(random: &mut Random, place: Place) -> Instruction {
-    Instruction::Load(some_register(random), place)
-}
-
-fn number(random: &mut Random, register: Register) -> Instruction {
-    Instruction::Set(register, 1 + random.below(15))
+// A load into one of the two registers for it.
+fn load(random: &mut Random, place: Place, full: Register) -> Instruction {
+    Instruction::Load(behind(full, 1 + random.below(2)), place)
 }
 
 // The place of the thread's first store, or any.
@@ -86,11 +97,11 @@ fn event(random: &mut Random, plan: &Plan, code: &[Instruction], full: Register)
     match random.below(3) {
         0 => {
             let place = some_place(random, plan);
-            load(random, place)
+            load(random, place, full)
         }
         1 => {
             let place = stored_place(random, plan, code);
-            load(random, place)
+            load(random, place, full)
         }
         _ => {
             let place = some_place(random, plan);
@@ -100,17 +111,14 @@ fn event(random: &mut Random, plan: &Plan, code: &[Instruction], full: Register)
 }
 
 // A line that reads and writes nothing.
-fn filler(random: &mut Random) -> Instruction {
-    match random.below(5) {
-        0 | 1 => {
-            let register = some_register(random);
-            number(random, register)
-        }
-        2 => Instruction::Fence,
+fn filler(random: &mut Random, full: Register) -> Instruction {
+    let into = if random.one_in(6) { some_register(random) } else { behind(full, 3) };
+    match random.below(6) {
+        0 | 1 | 2 => number(random, into),
+        3 => Instruction::Fence,
         _ => {
-            let sum = some_register(random);
             let first = some_register(random);
-            Instruction::Add(sum, first, some_register(random))
+            Instruction::Add(into, first, some_register(random))
         }
     }
 }
@@ -128,7 +136,7 @@ fn add_line(
         plan.spare -= 1;
         event(random, plan, code.as_slice(), full)
     } else {
-        filler(random)
+        filler(random, full)
     };
     let at = random.below(9) as usize;
     if at <= code.len() {
@@ -144,8 +152,9 @@ fn vary(random: &mut Random, plan: &mut Plan, code: &mut Vec<Instruction>, full:
     requires { ⌜ vec-len (now code) ≤ 8 ⌝ }
     ensures { λ r. ⌜ made r (λ _. vec-len (now (code .exit)) ≤ 8) ⌝ }
 {
-    if random.one_in(12) {
-        code.pop();
+    let at = random.below(40) as usize;
+    if at < code.len() {
+        code.remove(at);
     }
     let lines = if random.one_in(8) { 8 } else { random.below(4) };
     for _ in 0..lines {
@@ -156,20 +165,37 @@ fn vary(random: &mut Random, plan: &mut Plan, code: &mut Vec<Instruction>, full:
     Ok(())
 }
 
-// The thread of the ring's `at`-th place.
+// An access to the thread's own place and one to the next thread's.
+fn add_accesses(
+    random: &mut Random,
+    code: &mut Vec<Instruction>,
+    full: Register,
+    own: Place,
+    next: Place,
+) -> Result<(), AllocError>
+    ensures { λ r. ⌜ made r (λ _. vec-len (now (code .exit)) ≡ vec-len (now (code .entry)) + 2) ⌝ }
+{
+    let first = if random.one_in(20) { load(random, own, full) } else { store(random, own, full) };
+    let second = if random.one_in(12) { store(random, next, full) } else { load(random, next, full) };
+    code.push(first)?;
+    code.push(second)?;
+    Ok(())
+}
+
+// The ring's `at`-th thread.
 fn ring_thread(heap: Global, random: &mut Random, plan: &mut Plan, at: u32) -> Result<Vec<Instruction>, AllocError>
     requires { ⌜ at < 4 ⌝ }
     ensures { λ r. ⌜ made r (λ v. vec-len v ≤ 8) ⌝ }
 {
     let full = some_register(random);
-    let own = ring_place(plan, at);
-    let next = ring_place(plan, if at + 1 < plan.ring { at + 1 } else { 0 });
-    let first = if random.one_in(6) { load(random, own) } else { store(random, own, full) };
-    let second = if random.one_in(6) { store(random, next, full) } else { load(random, next) };
     let mut code = Vec::new(heap);
     code.push(number(random, full))?;
-    code.push(first)?;
-    code.push(second)?;
+    let next = if at + 1 < plan.ring { at + 1 } else { 0 };
+    add_accesses(random, &mut code, full, ring_place(plan, at), ring_place(plan, next))?;
+    if plan.twice {
+        let (own, next) = (ring_place(plan, at + 4), ring_place(plan, next + 4));
+        add_accesses(random, &mut code, full, own, next)?;
+    }
     vary(random, plan, &mut code, full)?;
     Ok(code)
 }
@@ -197,7 +223,7 @@ fn thread(heap: Global, random: &mut Random, plan: &mut Plan, at: u32) -> Result
     requires { ⌜ at < 4 ⌝ }
     ensures { λ r. ⌜ made r (λ v. vec-len v ≤ 8) ⌝ }
 {
-    if at < plan.ring && !random.one_in(10) {
+    if at < plan.ring && !random.one_in(24) {
         return ring_thread(heap, random, plan, at);
     }
     if random.one_in(3) {
@@ -209,10 +235,10 @@ fn thread(heap: Global, random: &mut Random, plan: &mut Plan, at: u32) -> Result
 fn ring_size(random: &mut Random, count: u32) -> u32
     ensures { λ r. ⌜ r ≤ count ⌝ }
 {
-    if random.one_in(6) {
+    if random.one_in(9) {
         return 0;
     }
-    if count > 2 && random.one_in(3) {
+    if count > 2 && random.one_in(4) {
         return count - 1;
     }
     count
@@ -238,14 +264,22 @@ fn push_thread(words: &mut Vec<u32>, code: &[Instruction]) -> Result<(), AllocEr
     Ok(())
 }
 
+fn new_plan(random: &mut Random, limits: Limits, count: u32) -> Plan
+    requires { ⌜ count ≤ 4 ⌝ }
+{
+    let ring = ring_size(random, count).min(limits.events / 2);
+    let twice = 4 * ring <= limits.events && random.one_in(3);
+    let accesses = if twice { 4 * ring } else { 2 * ring };
+    let start = random.below(8);
+    let stride = 2 * random.below(4) + 1;
+    Plan { ring, twice, start, stride, spare: limits.events.saturating_sub(accesses) }
+}
+
 // A program as words.
 pub fn program_words(heap: Global, random: &mut Random, limits: Limits) -> Result<Vec<u32>, AllocError> {
     let count = count_of(random, limits);
-    let ring = ring_size(random, count).min(limits.events / 2);
+    let mut plan = new_plan(random, limits, count);
     let first = random.below(count);
-    let start = random.below(8);
-    let stride = 2 * random.below(4) + 1;
-    let mut plan = Plan { ring, start, stride, spare: limits.events.saturating_sub(2 * ring) };
     let mut words = Vec::new(heap);
     words.push(count)?;
     for n in 0..count {

@@ -47,8 +47,8 @@ fn has_load(code: &[Instruction], begin: usize) -> bool {
     false
 }
 
-// The spots of a thread with a store before them and a load behind them. A fence elsewhere keeps no two events apart, so a list
-// with such a fence is never the shortest: without it, it does the same.
+// The spots of a thread with a store before them and a load behind them. A fence elsewhere keeps no two events apart, so a
+// list with such a fence never has the fewest: without it, it does the same.
 fn push_spots(
     spots: &mut Vec<Spot>,
     code: &[Instruction],
