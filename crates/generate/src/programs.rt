@@ -7,8 +7,8 @@
 // any of the eight.
 //
 // Each thread begins with a number above 0 in one register, which it mostly stores; it loads into two others, and the
-// lines that read and write nothing mostly use the fourth, so that what was loaded is still seen at the end. Some threads are
-// not in the ring: they are empty, or have a few loads and stores of the ring's places. Some programs have no ring at all.
+// lines that read and write nothing mostly use the fourth, so that what was loaded is still seen at the end. Some threads
+// are not in the ring: they are empty, or have a few loads and stores of the ring's places. Some programs have no ring.
 // To every thread lines are added anywhere: numbers, sums, fences, more loads and stores, loads of what the thread itself
 // stores; a line may be left out; and some threads are filled up to eight instructions.
 //
@@ -34,8 +34,8 @@ pub struct Limits {
     pub events: u32,
 }
 
-// A program that is being made: how many threads are in the ring, whether it goes round twice, which places it has, and how
-// many reads and writes may still be added.
+// A program that is being made: how many threads are in the ring, whether it goes round twice, which places it has, and
+// how many reads and writes may still be added.
 #[derive(Clone, Copy)]
 struct Plan {
     ring: u32,
@@ -61,7 +61,11 @@ fn behind(register: Register, by: u32) -> Register {
 
 // One of the three first places of the ring, and now and then another.
 fn some_place(random: &mut Random, plan: &Plan) -> Place {
-    let i = if random.one_in(12) { random.below(8) } else { random.below(3) };
+    let i = if random.one_in(12) {
+        random.below(8)
+    } else {
+        random.below(3)
+    };
     ring_place(plan, i)
 }
 
@@ -112,7 +116,11 @@ fn event(random: &mut Random, plan: &Plan, code: &[Instruction], full: Register)
 
 // A line that reads and writes nothing.
 fn filler(random: &mut Random, full: Register) -> Instruction {
-    let into = if random.one_in(6) { some_register(random) } else { behind(full, 3) };
+    let into = if random.one_in(6) {
+        some_register(random)
+    } else {
+        behind(full, 3)
+    };
     match random.below(6) {
         0 | 1 | 2 => number(random, into),
         3 => Instruction::Fence,
@@ -148,7 +156,12 @@ fn add_line(
 }
 
 // A few more lines, or lines up to eight instructions; and now and then one left out.
-fn vary(random: &mut Random, plan: &mut Plan, code: &mut Vec<Instruction>, full: Register) -> Result<(), AllocError>
+fn vary(
+    random: &mut Random,
+    plan: &mut Plan,
+    code: &mut Vec<Instruction>,
+    full: Register,
+) -> Result<(), AllocError>
     requires { ⌜ vec-len (now code) ≤ 8 ⌝ }
     ensures { λ r. ⌜ made r (λ _. vec-len (now (code .exit)) ≤ 8) ⌝ }
 {
@@ -171,19 +184,32 @@ fn add_accesses(
     code: &mut Vec<Instruction>,
     full: Register,
     own: Place,
-    next: Place,
+    other: Place,
 ) -> Result<(), AllocError>
     ensures { λ r. ⌜ made r (λ _. vec-len (now (code .exit)) ≡ vec-len (now (code .entry)) + 2) ⌝ }
 {
-    let first = if random.one_in(20) { load(random, own, full) } else { store(random, own, full) };
-    let second = if random.one_in(12) { store(random, next, full) } else { load(random, next, full) };
+    let first = if random.one_in(20) {
+        load(random, own, full)
+    } else {
+        store(random, own, full)
+    };
+    let second = if random.one_in(12) {
+        store(random, other, full)
+    } else {
+        load(random, other, full)
+    };
     code.push(first)?;
     code.push(second)?;
     Ok(())
 }
 
 // The ring's `at`-th thread.
-fn ring_thread(heap: Global, random: &mut Random, plan: &mut Plan, at: u32) -> Result<Vec<Instruction>, AllocError>
+fn ring_thread(
+    heap: Global,
+    random: &mut Random,
+    plan: &mut Plan,
+    at: u32,
+) -> Result<Vec<Instruction>, AllocError>
     requires { ⌜ at < 4 ⌝ }
     ensures { λ r. ⌜ made r (λ v. vec-len v ≤ 8) ⌝ }
 {
@@ -191,17 +217,22 @@ fn ring_thread(heap: Global, random: &mut Random, plan: &mut Plan, at: u32) -> R
     let mut code = Vec::new(heap);
     code.push(number(random, full))?;
     let next = if at + 1 < plan.ring { at + 1 } else { 0 };
-    add_accesses(random, &mut code, full, ring_place(plan, at), ring_place(plan, next))?;
+    let (own, other) = (ring_place(plan, at), ring_place(plan, next));
+    add_accesses(random, &mut code, full, own, other)?;
     if plan.twice {
-        let (own, next) = (ring_place(plan, at + 4), ring_place(plan, next + 4));
-        add_accesses(random, &mut code, full, own, next)?;
+        let (own, other) = (ring_place(plan, at + 4), ring_place(plan, next + 4));
+        add_accesses(random, &mut code, full, own, other)?;
     }
     vary(random, plan, &mut code, full)?;
     Ok(code)
 }
 
 // A thread that is not in the ring, with at most three loads and stores before it is varied.
-fn free_thread(heap: Global, random: &mut Random, plan: &mut Plan) -> Result<Vec<Instruction>, AllocError>
+fn free_thread(
+    heap: Global,
+    random: &mut Random,
+    plan: &mut Plan,
+) -> Result<Vec<Instruction>, AllocError>
     ensures { λ r. ⌜ made r (λ v. vec-len v ≤ 8) ⌝ }
 {
     let full = some_register(random);
@@ -219,7 +250,12 @@ fn free_thread(heap: Global, random: &mut Random, plan: &mut Plan) -> Result<Vec
 }
 
 // The `at`-th thread, counted from the ring's first.
-fn thread(heap: Global, random: &mut Random, plan: &mut Plan, at: u32) -> Result<Vec<Instruction>, AllocError>
+fn thread(
+    heap: Global,
+    random: &mut Random,
+    plan: &mut Plan,
+    at: u32,
+) -> Result<Vec<Instruction>, AllocError>
     requires { ⌜ at < 4 ⌝ }
     ensures { λ r. ⌜ made r (λ v. vec-len v ≤ 8) ⌝ }
 {
@@ -272,11 +308,21 @@ fn new_plan(random: &mut Random, limits: Limits, count: u32) -> Plan
     let accesses = if twice { 4 * ring } else { 2 * ring };
     let start = random.below(8);
     let stride = 2 * random.below(4) + 1;
-    Plan { ring, twice, start, stride, spare: limits.events.saturating_sub(accesses) }
+    Plan {
+        ring,
+        twice,
+        start,
+        stride,
+        spare: limits.events.saturating_sub(accesses),
+    }
 }
 
-// A program as words.
-pub fn program_words(heap: Global, random: &mut Random, limits: Limits) -> Result<Vec<u32>, AllocError> {
+// A program as words. Its events are at most as many as the limits say.
+pub fn program_words(
+    heap: Global,
+    random: &mut Random,
+    limits: Limits,
+) -> Result<Vec<u32>, AllocError> {
     let count = count_of(random, limits);
     let mut plan = new_plan(random, limits, count);
     let first = random.below(count);

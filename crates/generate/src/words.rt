@@ -15,7 +15,7 @@ fn some_word(random: &mut Random) -> u32 {
     random.below(20)
 }
 
-// The words with one changed or dropped, or with one more before or behind them all.
+// The words with one changed or dropped, or with one more.
 pub fn damaged(heap: Global, random: &mut Random, words: &[u32]) -> Result<Vec<u32>, AllocError>
     ensures { λ r. ⌜ made r (λ v. (vec-len v ≤ length (now (words .entry)) + 1) × (length (now (words .entry)) ≤ vec-len v + 1)) ⌝ }
 {

@@ -1,5 +1,4 @@
 // Events, the reads and writes of a program, and which of two must come first in a memory order.
-ghost use Prim.Native.Nat.{_≤_};
 use program::instructions::Instruction;
 use program::instructions::Place;
 use program::instructions::Register;
@@ -25,7 +24,8 @@ pub enum Rule {
     Waiting,
 }
 
-fn fences_in(code: &[Instruction], end: usize) -> usize {
+// How many fences stand before the instruction `end`.
+fn fences_before(code: &[Instruction], end: usize) -> usize {
     let mut fences = 0;
     for instruction in code.iter().take(end) {
         if let Instruction::Fence = instruction {
@@ -41,7 +41,7 @@ fn push_events(
     thread: usize,
 ) -> Result<(), AllocError> {
     for (index, instruction) in code.iter().enumerate() {
-        let fences = fences_in(code, index);
+        let fences = fences_before(code, index);
         match *instruction {
             Instruction::Load(register, place) => {
                 events.push(Event {
@@ -78,6 +78,7 @@ pub fn events_of(heap: Global, threads: &[Vec<Instruction>]) -> Result<Vec<Event
     Ok(events)
 }
 
+// They are one event.
 pub fn same(a: &Event, b: &Event) -> bool {
     a.thread == b.thread && a.index == b.index
 }

@@ -21,6 +21,7 @@ pub struct Fewest {
     pub orders: u64,
 }
 
+// The program, where fences may go, and what comes out of it at once; fences change nothing of that.
 #[derive(Drop)]
 struct Task<'a> {
     heap: Global,
@@ -47,8 +48,8 @@ fn has_load(code: &[Instruction], begin: usize) -> bool {
     false
 }
 
-// The spots of a thread with a store before them and a load behind them. A fence elsewhere keeps no two events apart, so a
-// list with such a fence never has the fewest: without it, it does the same.
+// The spots of a thread with a store before them and a load behind them. A fence elsewhere keeps no load from passing a
+// store, so a list with such a fence never has the fewest: without it, it does the same.
 fn push_spots(
     spots: &mut Vec<Spot>,
     code: &[Instruction],
@@ -71,10 +72,10 @@ fn spots_of(heap: Global, threads: &[Vec<Instruction>]) -> Result<Vec<Spot>, All
 }
 
 // With these fences every outcome is one at once.
-fn works(task: &Task, list: &mut Fewest) -> Result<bool, AllocError>
-    ensures { λ r. ⌜ made r (λ _. vec-len (now (list .exit) .spots) ≡ vec-len (now (list .entry) .spots)) ⌝ }
+fn works(task: &Task, tried: &mut Fewest) -> Result<bool, AllocError>
+    ensures { λ r. ⌜ made r (λ _. vec-len (now (tried .exit) .spots) ≡ vec-len (now (tried .entry) .spots)) ⌝ }
 {
-    let fenced = with_fences(task.heap, task.threads, list.spots.as_slice())?;
+    let fenced = with_fences(task.heap, task.threads, tried.spots.as_slice())?;
     let found = outcomes_besides(
         task.heap,
         Rule::Waiting,
@@ -82,33 +83,33 @@ fn works(task: &Task, list: &mut Fewest) -> Result<bool, AllocError>
         &task.at_once,
         1,
     )?;
-    list.lists = list.lists.saturating_add(1);
-    list.orders = list.orders.saturating_add(found.orders);
+    tried.lists = tried.lists.saturating_add(1);
+    tried.orders = tried.orders.saturating_add(found.orders);
     Ok(found.outcomes.is_empty())
 }
 
-// Tries all lists that begin with this one and have `more` spots behind it, each from the `from`-th on; the list is left at the
-// first that works.
+// Tries all lists that begin with this one and have `more` spots behind it, all from the `from`-th on; stops at the first
+// that works.
 fn try_longer(
     task: &Task,
     from: usize,
     more: usize,
-    list: &mut Fewest,
+    tried: &mut Fewest,
 ) -> Result<bool, AllocError> {
     if more == 0 {
-        return works(task, list);
+        return works(task, tried);
     }
     for i in from..task.spots.len() {
-        list.spots.push(task.spots[i])?;
-        if try_longer(task, i + 1, more - 1, list)? {
+        tried.spots.push(task.spots[i])?;
+        if try_longer(task, i + 1, more - 1, tried)? {
             return Ok(true);
         }
-        list.spots.pop();
+        tried.spots.pop();
     }
     Ok(false)
 }
 
-// None if no list works; but a fence before every instruction does.
+// The fewest fences, and of equally many the first list. None if no list works; but fences at all spots do.
 pub fn fewest_fences(
     heap: Global,
     threads: &[Vec<Instruction>],
@@ -121,14 +122,14 @@ pub fn fewest_fences(
         spots,
         at_once,
     };
-    let mut list = Fewest {
+    let mut tried = Fewest {
         spots: Vec::new(heap),
         lists: 0,
         orders: 0,
     };
     for more in 0..=task.spots.len() {
-        if try_longer(&task, 0, more, &mut list)? {
-            return Ok(Some(list));
+        if try_longer(&task, 0, more, &mut tried)? {
+            return Ok(Some(tried));
         }
     }
     Ok(None)

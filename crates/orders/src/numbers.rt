@@ -1,10 +1,12 @@
 // What a memory order makes of a program: the number that each event reads or writes, and the registers and the memory
 // at the end. Which orders there are is not said here.
 ghost use mathlib.Core.Path.{_≡_};
+ghost use Prim.Native.Nat.{_+_, _*_};
 ghost use lib.ListN.{length, getD, set};
+ghost use Rattle.std.specs.Of.Vec.{vec-len};
+ghost use Rattle.std.specs.Vec.{made};
 use crate::events::Event;
 use crate::events::older;
-use crate::events::same;
 use program::instructions::Instruction;
 use std::alloc::AllocError;
 use std::alloc::Global;
@@ -79,8 +81,8 @@ fn registers_at(
     registers
 }
 
-// The number that a write writes, by running its thread up to it. The reads before it in its thread are known: they come before it
-// in every order, and before every read that sees it.
+// The number that a write writes, by running its thread up to it. The reads before it in its thread are known by then:
+// they come before it in every order, and before every read that sees it.
 fn written(threads: &[Vec<Instruction>], w: &Event, order: &[Event], numbers: &[u32]) -> u32 {
     match threads.get(w.thread) {
         Some(code) => cell(
@@ -91,6 +93,7 @@ fn written(threads: &[Vec<Instruction>], w: &Event, order: &[Event], numbers: &[
     }
 }
 
+// What the `at`-th event of the order reads or writes.
 fn number_at(
     threads: &[Vec<Instruction>],
     e: &Event,
@@ -112,7 +115,9 @@ fn numbers_of(
     heap: Global,
     threads: &[Vec<Instruction>],
     order: &[Event],
-) -> Result<Vec<u32>, AllocError> {
+) -> Result<Vec<u32>, AllocError>
+    ensures { λ r. ⌜ made r (λ v. vec-len v ≡ length (now (order .entry))) ⌝ }
+{
     let mut numbers = Vec::new(heap);
     for (at, e) in order.iter().enumerate() {
         let number = number_at(threads, e, at, order, numbers.as_slice());
@@ -137,7 +142,9 @@ pub fn outcome_of(
     heap: Global,
     threads: &[Vec<Instruction>],
     order: &[Event],
-) -> Result<Vec<u32>, AllocError> {
+) -> Result<Vec<u32>, AllocError>
+    ensures { λ r. ⌜ made r (λ v. vec-len v ≡ 4 * length (now (threads .entry)) + 8) ⌝ }
+{
     let numbers = numbers_of(heap, threads, order)?;
     let mut outcome = Vec::new(heap);
     for (thread, code) in threads.iter().enumerate() {

@@ -1,4 +1,5 @@
-// All outcomes of a program: every order that a rule allows, made one by one, and what comes out of it.
+// All outcomes of a program: every order that a rule allows, made one by one, and what comes out of it. What an order
+// makes of the program is said elsewhere.
 ghost use mathlib.Core.Path.{_≡_};
 ghost use Rattle.std.specs.Of.Vec.{vec-len};
 ghost use Rattle.std.specs.Vec.{made};
@@ -13,10 +14,11 @@ use std::alloc::AllocError;
 use std::alloc::Global;
 use std::collections::BTreeSet;
 
+// An outcome is all registers, thread by thread, and then memory.
 pub type Outcomes = BTreeSet<Vec<u32>>;
 
-// The program whose orders are made, its events, by which rule, and when to stop: when there are `most` outcomes that are
-// not among the `known`.
+// The program whose orders are made, its events, by which rule, and when to stop: when there are `most` outcomes that
+// are not among the `known`.
 #[derive(Drop)]
 struct Task<'a, 'b> {
     heap: Global,
@@ -65,8 +67,8 @@ fn may_come(task: &Task, order: &[Event], e: &Event) -> bool {
     true
 }
 
-// Goes through all orders that begin with this one, and says whether to go on. Of the events that may come next the last is taken
-// first, since a read that passes a write gives something new more often.
+// Goes through all orders that begin with this one, and says whether to go on. Of the events that may come next the last
+// is taken first, since a read that passes a write gives something new more often.
 fn extend(task: &Task, order: &mut Vec<Event>, found: &mut Found) -> Result<bool, AllocError>
     ensures { λ r. ⌜ made r (λ _. vec-len (now (order .exit)) ≡ vec-len (now (order .entry))) ⌝ }
 {
@@ -77,11 +79,11 @@ fn extend(task: &Task, order: &mut Vec<Event>, found: &mut Found) -> Result<bool
     for e in task.events.iter().rev() {
         if may_come(task, order.as_slice(), e) {
             order.push(*e)?;
-            if !extend(task, order, found)? {
-                order.pop();
+            let go_on = extend(task, order, found)?;
+            order.pop();
+            if !go_on {
                 return Ok(false);
             }
-            order.pop();
         }
     }
     Ok(true)

@@ -1,6 +1,6 @@
 -- No more fences than instructions gone through.
 use Prim.Native.Nat.{_+_, _≤_}
-use Rattle.orders.proofs.events.fences_in.Given as given
+use Rattle.orders.proofs.events.fences_before.Given as given
 
 abbrev pub Inv-loop-instruction : given.InvT-loop-instruction
 Inv-loop-instruction l =
