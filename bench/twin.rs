@@ -6,7 +6,7 @@
 // Memory is lent, as it is to the proved library, so that neither pays for pages the other gets for nothing. None of
 // it is cleared beforehand, and no more of it is touched than the states found need.
 
-use std::time::{Duration, Instant};
+use std::time::Duration;
 
 /// What `look` says. `Fences` carries how many moves and how many fences stand in `out`.
 #[derive(Clone, Copy, PartialEq, Eq, Debug)]
@@ -27,6 +27,24 @@ pub enum Listing {
     OutFull,
     NoProgram,
     Few,
+}
+
+/// How a call is made: the table, and the clock that the caller measures with.
+#[derive(Clone, Copy)]
+pub struct How {
+    pub table: Table,
+    pub clock: fn() -> Duration,
+}
+
+/// Which states the table of the exploration knows.
+#[derive(Clone, Copy, PartialEq, Eq, Debug)]
+pub enum Table {
+    /// All states found: the plain method, which asks nothing of the machine.
+    AllStates,
+    /// Only the states with as many moves behind them as the one being added. Every move adds one to the sum of all
+    /// pcs and of all stores gone, so states found earlier can't be the same; their slots count as free, with no
+    /// clearing. The part of the table and of the states in use is then small enough for the processor's caches.
+    OneLevel,
 }
 
 /// What a call did, and how long it took.
@@ -198,21 +216,10 @@ fn home(hash: u32, slots: usize) -> usize {
     (u64::from(hash) * slots as u64 >> 32) as usize
 }
 
-/// Clears the table and puts in all states, which differ.
-#[cold]
-#[inline(never)]
-fn fill<const W: usize>(table: &mut [u32], states: &[[u32; W]]) {
-    table.fill(0);
-    for (i, s) in states.iter().enumerate() {
-        let mut at = home(hash(s), table.len());
-        while table[at] != 0 {
-            at += 1;
-            if at == table.len() {
-                at = 0;
-            }
-        }
-        table[at] = i as u32 + 1;
-    }
+/// Are two states equal? Written out, since `==` of arrays becomes a call of memcmp.
+#[inline(always)]
+fn same<const W: usize>(a: &[u32; W], b: &[u32; W]) -> bool {
+    a.iter().zip(b).fold(0, |differs, (x, y)| differs | (x ^ y)) == 0
 }
 
 // ---------------------------------------------------------------------------------------------------------------
@@ -246,19 +253,40 @@ struct Found<'a, const W: usize> {
     count: usize,
     table: &'a mut [u32],
     slots: usize,
+    /// How many of the states, the first ones, the table has forgotten: slots with these are free.
+    older: u32,
 }
 
 impl<const W: usize> Found<'_, W> {
+    /// Makes the table eight times as large, or as large as it can be, and puts its states in again.
+    #[cold]
+    #[inline(never)]
+    fn grow(&mut self) {
+        self.slots = (self.slots * 8).min(self.table.len());
+        let table = &mut self.table[..self.slots];
+        table.fill(0);
+        for (i, s) in self.states.iter().enumerate().take(self.count).skip(self.older as usize) {
+            let mut at = home(hash(s), table.len());
+            while table[at] != 0 {
+                at += 1;
+                if at == table.len() {
+                    at = 0;
+                }
+            }
+            table[at] = i as u32 + 1;
+        }
+    }
+
     /// The index + 1 of state d, which is added if it is new; none if there's no room for it.
     #[inline(always)]
     fn visit(&mut self, d: &[u32; W]) -> Option<u32> {
         let mut at = home(hash(d), self.slots);
         loop {
             let entry = self.table[at];
-            if entry == 0 {
+            if entry <= self.older {
                 break;
             }
-            if self.states[entry as usize - 1] == *d {
+            if same(&self.states[entry as usize - 1], d) {
                 return Some(entry);
             }
             at += 1;
@@ -269,9 +297,8 @@ impl<const W: usize> Found<'_, W> {
         *self.states.get_mut(self.count)? = *d;
         self.count += 1;
         self.table[at] = self.count as u32;
-        if self.count * 2 > self.slots {
-            self.slots = (self.slots * 4).min(self.table.len());
-            fill(&mut self.table[..self.slots], &self.states[..self.count]);
+        if (self.count - self.older as usize) * 2 > self.slots {
+            self.grow();
         }
         Some(self.count as u32)
     }
@@ -283,14 +310,22 @@ impl<const W: usize> Found<'_, W> {
 fn explore<const T: usize, const W: usize, const S: usize>(
     p: &Program,
     parts: &mut Parts<W, S>,
+    table: Table,
 ) -> Option<(usize, usize)> {
     let slots = FIRST_SLOTS.min(parts.table.len());
     parts.table[..slots].fill(0);
-    let mut found = Found { states: parts.states, count: 0, table: parts.table, slots };
+    let mut found = Found { states: parts.states, count: 0, table: parts.table, slots, older: 0 };
+    let mut level_end = 0;
     found.visit(&[0; W])?;
     let mut edges = 0;
     let mut i = 0;
     while i < found.count {
+        if i == level_end {
+            level_end = found.count;
+            if table == Table::OneLevel {
+                found.older = level_end as u32;
+            }
+        }
         let s = found.states[i];
         let mut to = [0; S];
         for t in 0..T {
@@ -501,7 +536,7 @@ fn few(most: u32, work: &[u32]) -> bool {
 }
 
 /// Is the program plain, and if not, which are the fewest fences, and a run that shows it.
-pub fn look(words: &[u32], most: u32, out: &mut [u32], work: &mut [u32]) -> (Answer, Counters) {
+pub fn look(words: &[u32], most: u32, out: &mut [u32], work: &mut [u32], how: How) -> (Answer, Counters) {
     if few(most, work) {
         return (Answer::Few, Counters::default());
     }
@@ -509,10 +544,10 @@ pub fn look(words: &[u32], most: u32, out: &mut [u32], work: &mut [u32]) -> (Ans
         return (Answer::NoProgram, Counters::default());
     };
     match p.threads {
-        1 => look_at::<1, 4, 2>(&p, out, work),
-        2 => look_at::<2, 7, 4>(&p, out, work),
-        3 => look_at::<3, 10, 6>(&p, out, work),
-        _ => look_at::<4, 13, 8>(&p, out, work),
+        1 => look_at::<1, 4, 2>(&p, out, work, how),
+        2 => look_at::<2, 7, 4>(&p, out, work, how),
+        3 => look_at::<3, 10, 6>(&p, out, work, how),
+        _ => look_at::<4, 13, 8>(&p, out, work, how),
     }
 }
 
@@ -520,20 +555,21 @@ fn look_at<const T: usize, const W: usize, const S: usize>(
     p: &Program,
     out: &mut [u32],
     work: &mut [u32],
+    how: How,
 ) -> (Answer, Counters) {
     let mut counters = Counters::default();
-    let begin = Instant::now();
+    let begin = (how.clock)();
     let mut parts = Parts::<W, S>::of(work);
-    let explored = explore::<T, W, S>(p, &mut parts);
-    counters.exploring = begin.elapsed();
+    let explored = explore::<T, W, S>(p, &mut parts, how.table);
+    counters.exploring = (how.clock)() - begin;
     let Some((count, edges)) = explored else {
         return (Answer::Crowded, counters);
     };
     counters.states = count;
     counters.edges = edges;
-    let begin = Instant::now();
+    let begin = (how.clock)();
     let answer = fences_of::<T, W, S>(p, parts, count, out, &mut counters.looks);
-    counters.rest = begin.elapsed();
+    counters.rest = (how.clock)() - begin;
     (answer, counters)
 }
 
@@ -573,7 +609,7 @@ fn fences_of<const T: usize, const W: usize, const S: usize>(
 
 /// Lists all outcomes: for each whether it comes out at once (1) or only where stores wait (0), each thread's
 /// registers as four nibbles, and memory as eight.
-pub fn outcomes(words: &[u32], most: u32, out: &mut [u32], work: &mut [u32]) -> (Listing, Counters) {
+pub fn outcomes(words: &[u32], most: u32, out: &mut [u32], work: &mut [u32], how: How) -> (Listing, Counters) {
     if few(most, work) {
         return (Listing::Few, Counters::default());
     }
@@ -581,10 +617,10 @@ pub fn outcomes(words: &[u32], most: u32, out: &mut [u32], work: &mut [u32]) -> 
         return (Listing::NoProgram, Counters::default());
     };
     match p.threads {
-        1 => outcomes_of::<1, 4, 2>(&p, out, work),
-        2 => outcomes_of::<2, 7, 4>(&p, out, work),
-        3 => outcomes_of::<3, 10, 6>(&p, out, work),
-        _ => outcomes_of::<4, 13, 8>(&p, out, work),
+        1 => outcomes_of::<1, 4, 2>(&p, out, work, how),
+        2 => outcomes_of::<2, 7, 4>(&p, out, work, how),
+        3 => outcomes_of::<3, 10, 6>(&p, out, work, how),
+        _ => outcomes_of::<4, 13, 8>(&p, out, work, how),
     }
 }
 
@@ -592,18 +628,19 @@ fn outcomes_of<const T: usize, const W: usize, const S: usize>(
     p: &Program,
     out: &mut [u32],
     work: &mut [u32],
+    how: How,
 ) -> (Listing, Counters) {
     let mut counters = Counters::default();
-    let begin = Instant::now();
+    let begin = (how.clock)();
     let mut parts = Parts::<W, S>::of(work);
-    let explored = explore::<T, W, S>(p, &mut parts);
-    counters.exploring = begin.elapsed();
+    let explored = explore::<T, W, S>(p, &mut parts, how.table);
+    counters.exploring = (how.clock)() - begin;
     let Some((count, edges)) = explored else {
         return (Listing::Crowded, counters);
     };
     counters.states = count;
     counters.edges = edges;
-    let begin = Instant::now();
+    let begin = (how.clock)();
     let states = &parts.states[..count];
     let successors = &parts.successors[..count];
     let marks = &mut parts.marks[..count];
@@ -611,7 +648,7 @@ fn outcomes_of<const T: usize, const W: usize, const S: usize>(
     let finished = first_finished(successors);
     let size = T + 2;
     if out.len() / size < count - finished {
-        counters.rest = begin.elapsed();
+        counters.rest = (how.clock)() - begin;
         return (Listing::OutFull, counters);
     }
     for ((s, &mark), row) in states.iter().zip(marks.iter()).skip(finished).zip(out.chunks_exact_mut(size)) {
@@ -621,6 +658,6 @@ fn outcomes_of<const T: usize, const W: usize, const S: usize>(
         }
         row[1 + T] = s[0];
     }
-    counters.rest = begin.elapsed();
+    counters.rest = (how.clock)() - begin;
     (Listing::Listed { outcomes: count - finished }, counters)
 }
