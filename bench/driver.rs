@@ -293,12 +293,12 @@ fn a_state(time: Duration, row: &Row) -> String {
 }
 
 fn head() {
-    print!("| programs | states | looks |");
+    print!("| programs | states | moves | looks |");
     if HAVE_PROVED {
         print!(" proved | ns a state | twin / proved |");
     }
     println!(" twin | of it exploring | ns a state | twin by levels | of it exploring | ns a state |");
-    print!("|---|---|---|");
+    print!("|---|---|---|---|");
     if HAVE_PROVED {
         print!("---|---|---|");
     }
@@ -306,7 +306,7 @@ fn head() {
 }
 
 fn line(name: &str, row: &Row) {
-    print!("| {name} | {} | {} |", row.states, row.looks);
+    print!("| {name} | {} | {} | {} |", row.states, row.edges, row.looks);
     if HAVE_PROVED {
         let ratio = row.twin.as_secs_f64() / row.proved.as_secs_f64();
         print!(" {} | {} | {ratio:.2} |", seconds(row.proved), a_state(row.proved, row));

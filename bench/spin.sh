@@ -27,7 +27,7 @@ for _ in 1 2 3 4 5; do
 done
 states=$(awk '/states, stored/ { print $1 }' pan.out)
 moves=$(awk '/transitions/ { print $1 - 1 }' pan.out)
-awk -v s="$states" -v m="$moves" -v t="$least" 'BEGIN {
+awk -v name="$(basename "$words")" -v s="$states" -v m="$moves" -v t="$least" 'BEGIN {
   printf "| SPIN, exploration alone | states | moves | processor time | ns a state |\n|---|---|---|---|---|\n"
-  printf "| the large program | %d | %d | %.3f s | %.0f |\n", s, m, t, t * 1e9 / s
-}' | sed "s/the large program/$(basename "$words")/"
+  printf "| %s | %d | %d | %.3f s | %.0f |\n", name, s, m, t, t * 1e9 / s
+}'
