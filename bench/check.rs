@@ -74,7 +74,7 @@ fn first(
 fn main() {
     let mut lent = Lent { out: vec![7; 256], work: vec![7; 65_536 + 128 * (MOST as usize + 1)] };
     let (mut programs, mut not_plain) = (0, 0);
-    for (threads, lines, count) in [(2, 5, 2_000), (3, 5, 300), (4, 3, 100)] {
+    for (threads, lines, count) in [(2, 5, 3_000), (3, 4, 1_000), (4, 3, 100)] {
         for words in programs::random(2, threads, count) {
             let program = cut(&words, lines);
             let all: Vec<(usize, usize)> =
