@@ -436,7 +436,8 @@ fn lent_memory(sets: &Sets, buffers: &mut Buffers) {
     let little = 2_000;
     head();
     let mut rows = Vec::new();
-    for (name, words) in [("store buffering", &sets.worked[0].words), ("a random program of two threads", &sets.two[0])] {
+    let programs = [("store buffering", &sets.worked[0].words), ("a random program of two threads", &sets.two[0])];
+    for (name, words) in programs {
         for most in [little, MOST] {
             let row = measure_look(words, most, 100, buffers);
             line(&format!("{name}, {} words lent", lent_for(most)), &row);
@@ -504,8 +505,8 @@ fn main() {
         worked: programs::named_from_file(&format!("{folder}/worked.words")),
     };
     // not zeros, so that nobody is served by memory that happens to be clear
-    let mut buffers =
-        Buffers { out: vec![0x5a5a_5a5a; OUT], other_out: vec![0x5a5a_5a5a; OUT], work: vec![0x5a5a_5a5a; lent_for(MOST)] };
+    let filled = |len| vec![0x5a5a_5a5a; len];
+    let mut buffers = Buffers { out: filled(OUT), other_out: filled(OUT), work: filled(lent_for(MOST)) };
     if !HAVE_PROVED {
         println!("Built without the proved library: the twin alone.");
     }

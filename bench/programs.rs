@@ -53,7 +53,7 @@ impl Random {
 }
 
 /// A thread of eight lines that begins with a number above 0 in register 0. Of the seven others a third store (register
-/// 0 three times in four), a third load (into a register other than 0), and of a hundred 14 set, 12 add and 8 are fences.
+/// 0 three times in four), a third load (into a register other than 0); of a hundred 14 set, 12 add and 8 are fences.
 fn thread(random: &mut Random, places: u32, words: &mut Vec<u32>) {
     words.extend([8, 0, 0, 1 + random.below(15), 0]);
     for _ in 1..8 {

@@ -16,7 +16,8 @@ cd "$folder"
 python3 "$here/promela.py" "$words" >model.pml
 spin -a model.pml >/dev/null
 # -DSAFETY: no search for cycles. -DNOREDUCE: all states, no partial-order reduction. The states are kept whole:
-# -DCOLLAPSE takes twice the time here, -DBFS one and a half times, -O3 no less than -O2; -DHC4 loses states.
+# -DCOLLAPSE takes 1.8 times as long here and -DBFS 1.3 times; -O3, -DNOCOMP and -DNOBOUNDCHECK make no difference that
+# can be told from noise; -DHC4 loses states.
 gcc -O2 -w -DSAFETY -DNOREDUCE -DMEMLIM=4000 -o pan pan.c
 # -w22: a table of 4 million slots, the quickest for a million states. No run is longer than 64 moves.
 TIMEFORMAT='%U %S'
