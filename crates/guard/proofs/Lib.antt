@@ -1,0 +1,4 @@
+-- Lemmas on guards over explored states.
+pub mod MaskLaws
+pub mod Passing
+pub mod HitWords
