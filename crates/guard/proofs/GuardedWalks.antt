@@ -34,6 +34,9 @@ unless-or : (c edge : ℕ) → (unless c edge ≡ 0) ⊎ (unless c edge ≡ edge
 unless-or zero edge = inr refl
 unless-or (suc c) edge = inl refl
 
+same-moves : (a b : Move) (as₁ bs : List Move) → a ≡ b → as₁ ≡ bs → a ∷ as₁ ≡ b ∷ bs
+same-moves a b as₁ bs e f = cc
+
 -- guards only take edges away
 pub guarded-fewer : (t : ℕ) (q g : List ℕ) (guards : ℕ) → Fewer (guarded t q g guards) (kept g (moves-of t))
 guarded-fewer t q g guards i m = unless-or (bitAnd (hit-bits t q i m) guards) (kept g (moves-of t) i m)
@@ -101,7 +104,7 @@ module _ (p : Prog) (q g : List ℕ) (n t : ℕ) (count : length p ≡ t) (x : E
       let (k, hk, edge, su) = move-edge i b u h l eb in
       let e2 : gmoves (masked guards) p (state t q k) ms ≡ some s = ap (λ (z : St). gmoves (masked guards) p z ms) su ∙ e1 in
       let (ns, j, hj, sj, same, w) = run-walk-from ms k s hk e2 in
-      (b ∷ ns, j, hj, sj, ap (λ (z : Move). z ∷ map (move-of t) ns) is ∙ ap (λ (z : List Move). m ∷ z) same, (k, l, edge, w))
+      (b ∷ ns, j, hj, sj, same-moves (move-of t b) m (map (move-of t) ns) ms is same, (k, l, edge, w))
 
   pub run-walk : (ms : List Move) (s : St) → gmoves (masked guards) p (begin p) ms ≡ some s → (ns : List ℕ) × (j : ℕ) × (j < n) × (state t q j ≡ s) × (map (move-of t) ns ≡ ms) × Walk (guarded t q g guards) (moves-of t) 0 ns j
   run-walk ms s e =

@@ -15,10 +15,14 @@ pub fn run_hits(threads: usize, queue: &[u32], edges: &[u32], path: &[u32]) -> u
     let mut passed = 0;
     'along: for k in 0..path.len() {
         let by = path[k] as usize;
-        if node * width + width > queue.len() || node * moves + by >= edges.len() {
+        if node * width + width > queue.len() {
             return passed;
         }
-        let target = edges[node * moves + by];
+        let at = node * moves + by;
+        if at >= edges.len() {
+            return passed;
+        }
+        let target = edges[at];
         if target == 0 {
             return passed;
         }

@@ -1,19 +1,16 @@
-use mathlib.Core.Logic.{inl, inr}
 use native.Mathlib.Omega.{arith}
 use Rattle.guard.proofs.Along.{goes-on, goes-all, no-words, no-edge, past-edges}
 use Rattle.guard.proofs.path.run_hits.Needs as need
 
 pub returns-then-node-width : need.returns-then-node-width
 returns-then-node-width c =
-    let t = c .args .threads in
-    let q = c .args .queue .now in
-    let g = c .args .edges .now in
-    let path = c .args .path .now in
     let l = c .along in
-    elim (c .then-node-width .either) [
-      | inl h ↦ no-words t q g path (l .node) (l .k) (l .passed) (l .passed) (omega arith) (omega arith) (l .inv .1)
-      | inr h ↦ past-edges t q g path (l .node) (l .k) (l .passed) (l .passed) (omega arith) (omega arith) (l .inv .1)
-    ]
+    no-words (c .args .threads) (c .args .queue .now) (c .args .edges .now) (c .args .path .now) (l .node) (l .k) (l .passed) (l .passed) (omega arith) (omega arith) (l .inv .1)
+
+pub returns-then-at-edges : need.returns-then-at-edges
+returns-then-at-edges c =
+    let l = c .along in
+    past-edges (c .args .threads) (c .args .queue .now) (c .args .edges .now) (c .args .path .now) (l .node) (l .k) (l .passed) (l .passed) (omega arith) (omega arith) (l .inv .1)
 
 pub returns-then-target-eq0 : need.returns-then-target-eq0
 returns-then-target-eq0 c =
