@@ -5,3 +5,4 @@ pub mod HitWords
 pub mod Steps
 pub mod GuardedWalks
 pub mod Along
+pub mod Placed
