@@ -3,7 +3,7 @@ use mathlib.Core.Path.{_≡_, refl, sym, ap, subst, _∙_}
 use mathlib.Core.Logic.{_⊎_, inl, inr}
 use mathlib.Core.List.{List, [], _∷_, map}
 use mathlib.Core.Option.{some, none}
-use Prim.Native.Nat.{ℕ, zero, suc, _+_, _*_, _<_, _≤_}
+use Prim.Native.Nat.{ℕ, zero, suc, _*_, _<_, _≤_}
 use native.Mathlib.Omega.{arith}
 use lib.Bits.{bitAnd}
 use lib.ListN.{length}
@@ -15,7 +15,7 @@ use Rattle.model.proofs.RunsUnderGuards.{gmove-move, move-gmove, no-more-states
 use Rattle.graph.specs.Rules.{kept, Ahead}
 use Rattle.graph.specs.Walks.{Walk, Fewer}
 use Rattle.graph.specs.Search.{Marked, Searched}
-use Rattle.explore.specs.Found.{width, moves-of, move-of, state, Explored}
+use Rattle.explore.specs.Found.{moves-of, move-of, state, Explored}
 use Rattle.explore.proofs.Edges.{word-within}
 use Rattle.guard.specs.Masks.{masked, mask}
 use Rattle.guard.specs.Rules.{hit-bits, unless, guarded, Askable}
