@@ -1,15 +1,15 @@
 -- Going along a path: what is passed so far, and what the rest of the path passes, is what all of it passes.
-use mathlib.Core.Path.{_≡_, refl, sym, ap, subst, _∙_}
+use mathlib.Core.Path.{_≡_, sym, ap, subst, _∙_}
 use mathlib.Core.List.{List, [], _∷_, _++_, map}
-use mathlib.Core.Option.{some, none}
-use Prim.Native.Nat.{ℕ, zero, suc, _+_, _*_, _-_, _^_, _<_, _≤_}
+use mathlib.Core.Option.{some}
+use Prim.Native.Nat.{ℕ, suc, _+_, _*_, _-_, _^_, _<_, _≤_}
 use native.Mathlib.Numerals.{add-one}
 use native.Mathlib.Omega.{arith}
-use lib.Bits.{bitAnd, bitOr, or-lt, or-zero-l, or-zero-r}
+use lib.Bits.{bitOr, or-lt, or-zero-l, or-zero-r}
 use lib.ListN.{length, getD, drop, drop-of-length-le}
 use lib.Seq.{drop-cons}
 use Rattle.std.proofs.shelf.Lists.{getD-past}
-use Rattle.model.specs.Code.{Prog, opt}
+use Rattle.model.specs.Code.{Prog}
 use Rattle.model.specs.Fences.{Spot}
 use Rattle.model.specs.Machine.{St, Move, move, begin}
 use Rattle.model.specs.Guards.{hit, hits}

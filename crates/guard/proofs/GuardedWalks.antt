@@ -3,19 +3,19 @@ use mathlib.Core.Path.{_≡_, refl, sym, ap, subst, _∙_}
 use mathlib.Core.Logic.{_⊎_, inl, inr}
 use mathlib.Core.List.{List, [], _∷_, map}
 use mathlib.Core.Option.{some, none}
-use Prim.Native.Nat.{ℕ, zero, suc, _+_, _*_, _<_, _≤_}
+use Prim.Native.Nat.{ℕ, zero, suc, _*_, _<_, _≤_}
 use native.Mathlib.Omega.{arith}
 use lib.Bits.{bitAnd}
 use lib.ListN.{length}
 use Rattle.model.specs.Code.{Prog}
 use Rattle.model.specs.Machine.{St, Move, move, moves, begin}
-use Rattle.model.specs.Guards.{gmove, gmoves, hit, hits}
+use Rattle.model.specs.Guards.{Guard, gmove, gmoves, hit, hits}
 use Rattle.model.proofs.Tools.{opt-some, opt-is, some-is, none-some}
 use Rattle.model.proofs.RunsUnderGuards.{gmove-move, move-gmove, no-more-states}
 use Rattle.graph.specs.Rules.{kept, Ahead}
 use Rattle.graph.specs.Walks.{Walk, Fewer}
 use Rattle.graph.specs.Search.{Marked, Searched}
-use Rattle.explore.specs.Found.{width, moves-of, move-of, state, Explored}
+use Rattle.explore.specs.Found.{moves-of, move-of, state, Explored}
 use Rattle.explore.proofs.Edges.{word-within}
 use Rattle.guard.specs.Masks.{masked, mask}
 use Rattle.guard.specs.Rules.{hit-bits, unless, guarded, Askable}
@@ -37,6 +37,9 @@ unless-or (suc c) edge = inl refl
 same-moves : (a b : Move) (as₁ bs : List Move) → a ≡ b → as₁ ≡ bs → a ∷ as₁ ≡ b ∷ bs
 same-moves a b as₁ bs e f = cc
 
+from-same : (g : Guard) (p : Prog) (s t u : St) (ms : List Move) → s ≡ t → gmoves g p t ms ≡ some u → gmoves g p s ms ≡ some u
+from-same g p s t u ms e h = ap (λ (z : St). gmoves g p z ms) e ∙ h
+
 -- guards only take edges away
 pub guarded-fewer : (t : ℕ) (q g : List ℕ) (guards : ℕ) → Fewer (guarded t q g guards) (kept g (moves-of t))
 guarded-fewer t q g guards i m = unless-or (bitAnd (hit-bits t q i m) guards) (kept g (moves-of t) i m)
@@ -46,7 +49,7 @@ module _ (p : Prog) (q g : List ℕ) (n t : ℕ) (count : length p ≡ t) (x : E
   pub guarded-ahead : t ≤ 4 → n * moves-of t ≤ length g → Ahead (Askable t q g) (guarded t q g guards) (moves-of t) n
   guarded-ahead few room =
       let left : (i m j : ℕ) → guarded t q g guards i m ≡ suc j → kept g (moves-of t) i m ≡ suc j =
-          λ i m j e. unless-some (bitAnd (hit-bits t q i m) guards) (kept g (moves-of t) i m) j e .1 in
+      λ i m j e. unless-some (bitAnd (hit-bits t q i m) guards) (kept g (moves-of t) i m) j e .1 in
       record {
         may = λ i m h l. record { few = few; words = words-of p q g n t count x i h; edge = word-within i n n (moves-of t) m (length g) h (omega arith) l room };
         up = λ i m j h l e. leads p q g n t count x i m j h l (left i m j e) .0;
@@ -74,6 +77,14 @@ module _ (p : Prog) (q g : List ℕ) (n t : ℕ) (count : length p ≡ t) (x : E
           let (up, within, at) = leads p q g n t count x i m j h l k in
           (j, within, is ∙ k, some-is (sym at ∙ mv))
 
+  -- the same of any move that can be made: it has a number
+  any-move-edge : (i : ℕ) (m : Move) (u : St) → i < n → gmove (masked guards) p (state t q i) m ≡ some u → (b j : ℕ) × (b < moves-of t) × (move-of t b ≡ m) × (j < n) × (guarded t q g guards i b ≡ suc j) × (state t q j ≡ u)
+  any-move-edge i m u h e =
+      let (f, mv) = gmove-move (masked guards) p (state t q i) u m e in
+      let (b, l, is) = move-number p (state t q i) u t m (threads-of p q g n t count x i h) mv in
+      let (j, within, edge, su) = move-edge i b u h l (ap (gmove (masked guards) p (state t q i)) is ∙ e) in
+      (b, j, l, is, within, edge, su)
+
   -- a walk is a run
   pub walk-run-from : (ms : List ℕ) (i j : ℕ) → i < n → Walk (guarded t q g guards) (moves-of t) i ms j → gmoves (masked guards) p (state t q i) (map (move-of t) ms) ≡ some (state t q j)
   walk-run-from [] i j h w = ap (λ (k : ℕ). some (state t q k)) w
@@ -98,11 +109,8 @@ module _ (p : Prog) (q g : List ℕ) (n t : ℕ) (count : length p ≡ t) (x : E
   run-walk-from [] i s h e = ([], i, h, some-is e, refl, refl)
   run-walk-from (m ∷ ms) i s h e =
       let (u, eu, e1) = opt-some (gmove (masked guards) p (state t q i) m) _ e in
-      let (f, mv) = gmove-move (masked guards) p (state t q i) u m eu in
-      let (b, l, is) = move-number p (state t q i) u t m (threads-of p q g n t count x i h) mv in
-      let eb : gmove (masked guards) p (state t q i) (move-of t b) ≡ some u = ap (gmove (masked guards) p (state t q i)) is ∙ eu in
-      let (k, hk, edge, su) = move-edge i b u h l eb in
-      let e2 : gmoves (masked guards) p (state t q k) ms ≡ some s = ap (λ (z : St). gmoves (masked guards) p z ms) su ∙ e1 in
+      let (b, k, l, is, hk, edge, su) = any-move-edge i m u h eu in
+      let e2 = from-same (masked guards) p (state t q k) u s ms su e1 in
       let (ns, j, hj, sj, same, w) = run-walk-from ms k s hk e2 in
       (b ∷ ns, j, hj, sj, same-moves (move-of t b) m (map (move-of t) ns) ms is same, (k, l, edge, w))
 

@@ -1,19 +1,19 @@
 -- What a move passes, read off the words of a state: the first word of its thread says all.
-use mathlib.Core.Path.{_≡_, refl, sym, ap, subst, _∙_}
+use mathlib.Core.Path.{_≡_, refl, ap, _∙_}
 use mathlib.Core.List.{List, [], _∷_}
-use mathlib.Core.Option.{Option, some, none}
-use Prim.Native.Nat.{ℕ, zero, suc, _+_, _*_, _-_, _/_, _%_, _<_, _≤_}
+use mathlib.Core.Option.{some}
+use Prim.Native.Nat.{ℕ, zero, suc, _+_, _*_, _/_, _%_, _<_, _≤_}
 use native.Mathlib.Omega.{arith}
 use lib.Bits.{or-zero-r}
 use lib.ListN.{length, getD}
 use Rattle.lent.specs.Records.{rec}
 use Rattle.lent.proofs.RecordLaws.{length-rec, getD-rec}
 use Rattle.model.specs.Code.{nth}
-use Rattle.model.specs.Machine.{At, St, Move, next, out}
+use Rattle.model.specs.Machine.{St, next}
 use Rattle.model.specs.Guards.{hit}
 use Rattle.model.proofs.Tools.{opt-is}
 use Rattle.machine.specs.Packed.{unpack-at, unpack-ts, unpack}
-use Rattle.explore.specs.Found.{width, move-of, state}
+use Rattle.explore.specs.Found.{width, state}
 use Rattle.explore.proofs.MoveNumbers.{move-next, move-out}
 use Rattle.guard.specs.Masks.{bit-of, mask}
 use Rattle.guard.specs.Rules.{word-bit, hit-bits}

@@ -1,9 +1,9 @@
 -- Sets of spots as numbers: which bits are set.
-use mathlib.Core.Path.{_≡_, refl, sym, ap, subst, _∙_}
+use mathlib.Core.Path.{_≡_, sym, ap, _∙_}
 use mathlib.Core.Logic.{_⊎_, inl, inr}
-use mathlib.Core.Bool.{Bool, true, false, _&&_}
+use mathlib.Core.Bool.{true, false}
 use mathlib.Core.List.{List, [], _∷_, _++_}
-use Prim.Native.Nat.{ℕ, zero, suc, _+_, _*_, _-_, _^_, _<_, _≤_}
+use Prim.Native.Nat.{ℕ, _^_, _<_, _≤_}
 use native.Mathlib.Omega.{arith}
 use lib.Bits.{bitAnd, bitOr, or-lt, or-zero-l}
 use lib.Dec.{eqb, ltb}
@@ -12,7 +12,7 @@ use Rattle.std.proofs.shelf.Tests.{cases-lt, cases-eq, lt-ltb, le-ltb, and-from
 use Rattle.model.specs.Code.{pick}
 use Rattle.model.specs.Fences.{Spot}
 use Rattle.model.specs.Guards.{On, on-first, on-more}
-use Rattle.model.proofs.Tools.{false-true, and-both, eqb-is, eqb-same}
+use Rattle.model.proofs.Tools.{false-true, and-both, eqb-is}
 use Rattle.model.proofs.RunsUnderGuards.{on-inv}
 use Rattle.hitting.specs.Masks.{bit}
 use Rattle.hitting.proofs.Bits.{bit-lt, bit-or, bit-one, bit-other, some-bit, same-bits, shared-bit, bit-shared}

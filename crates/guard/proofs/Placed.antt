@@ -1,20 +1,20 @@
 -- The spots that a run passes stand before instructions of the program, so that each has its bit; and guards at a list of
 -- such spots are the guards of the list's bits.
-use mathlib.Core.Path.{_≡_, refl, sym, ap, subst, _∙_}
+use mathlib.Core.Path.{_≡_, sym, ap, subst, _∙_}
 use mathlib.Core.Logic.{inl, inr}
 use mathlib.Core.Bool.{Bool, true, false, _&&_}
 use mathlib.Core.List.{List, [], _∷_, _++_}
-use mathlib.Core.Option.{some, none}
-use Prim.Native.Nat.{ℕ, zero, suc, _+_, _*_, _-_, _<_, _≤_}
+use mathlib.Core.Option.{some}
+use Prim.Native.Nat.{ℕ, zero, suc, _+_, _*_, _<_, _≤_}
 use native.Mathlib.Omega.{arith}
 use lib.Dec.{T, leb}
 use lib.ListN.{length}
 use Rattle.std.proofs.shelf.Tests.{leb-true}
-use Rattle.model.specs.Code.{pick, opt, nth, Thread, Prog, ok-t, ok-ts, ok}
-use Rattle.model.specs.Machine.{At, St, Move, next, out, move, moves, empty}
+use Rattle.model.specs.Code.{pick, nth, Thread, Prog, ok-t, ok-ts, ok}
+use Rattle.model.specs.Machine.{St, Move, next, out, move, moves, empty}
 use Rattle.model.specs.Fences.{Spot}
-use Rattle.model.specs.Guards.{guards, gmoves, hit, hits, On, on-first, on-more}
-use Rattle.model.proofs.Tools.{opt-some, opt-is, some-is, none-some, true-T, T-true, and-both, nth-below, next-of}
+use Rattle.model.specs.Guards.{guards, gmoves, hit, hits, On}
+use Rattle.model.proofs.Tools.{opt-some, opt-is, some-is, none-some, T-true, and-both, nth-below, next-of}
 use Rattle.model.proofs.RunsUnderGuards.{on-inv, on-either, on-guards, guards-on, gmoves-less}
 use Rattle.hitting.specs.Masks.{bit}
 use Rattle.guard.specs.Masks.{place, masked, mask}

@@ -1,11 +1,11 @@
 -- What is known of explored states, for so many threads t as the program has: where their words are, and where their kept
 -- edges lead.
-use mathlib.Core.Path.{_≡_, refl, sym, ap, subst, _∙_}
+use mathlib.Core.Path.{_≡_, ap, subst, _∙_}
 use mathlib.Core.List.{List, [], _∷_, map}
 use mathlib.Core.Option.{some, none}
-use Prim.Native.Nat.{ℕ, zero, suc, _+_, _*_, _-_, _<_, _≤_}
+use Prim.Native.Nat.{ℕ, suc, _+_, _*_, _-_, _<_, _≤_}
 use native.Mathlib.Omega.{arith}
-use lib.ListN.{length, take, drop, length-take, length-drop}
+use lib.ListN.{length, drop, length-take, length-drop}
 use Rattle.lent.specs.Records.{rec}
 use Rattle.model.specs.Code.{Prog}
 use Rattle.model.specs.Machine.{St, Move, next, out, move, moves, begin}

@@ -1,5 +1,4 @@
 // The rule of guards: an edge may be taken unless it passes a guarded spot while something of its thread waits.
-ghost use mathlib.Core.Path.{_≡_};
 ghost use denote.Ref.{now};
 ghost use Rattle.guard.specs.Rules.{guarded, Askable};
 use crate::hits::hit;
