@@ -11,7 +11,8 @@ use crate::steps::step;
 use lent::shape::Shape;
 use program::threads::Program;
 
-// Move `m` of state `i`. Gives how many states there are then; none where there is one more than may be.
+// Move `m` of state `i`, whose words begin at `start`, and whose edge's word stands `at`. Gives how many states there are
+// then; none where there is one more than may be.
 pub fn visit(
     p: &Program,
     shape: Shape,
@@ -19,6 +20,8 @@ pub fn visit(
     n: usize,
     i: usize,
     m: usize,
+    start: usize,
+    at: usize,
     queue: &mut [u32],
     table: &mut [u32],
     edges: &mut [u32],
@@ -28,13 +31,14 @@ pub fn visit(
     requires key { ⌜ length (now key) ≡ width (length (program (now p))) ⌝ }
     requires room { ⌜ n < shape .room ⌝ }
     requires told { ⌜ limit < 2 ^ 32 ⌝ }
-    requires queue_ends { ⌜ limit * width (length (program (now p))) ≤ length (now queue) ⌝ }
-    requires edges_end { ⌜ limit * moves-of (length (program (now p))) ≤ length (now edges) ⌝ }
+    requires starts { ⌜ start ≡ i * shape .width ⌝ }
+    requires words { ⌜ start + shape .width ≤ length (now queue) ⌝ }
+    requires stands { ⌜ at ≡ i * moves-of (length (program (now p))) + m ⌝ }
+    requires word { ⌜ at < length (now edges) ⌝ }
+    requires ends { ⌜ limit * shape .width ≤ length (now queue) ⌝ }
     requires below { ⌜ m < moves-of (length (program (now p))) ⌝ }
     ensures { λ r. ⌜ Visited (program (now (p .entry))) shape limit n i m (now (queue .exit)) (now (table .exit)) (now (edges .exit)) r ⌝ }
 {
-    let start = i * shape.width;
-    let at = i * (2 * p.count) + m;
     if !step(p, m, &queue[start..start + shape.width], key) {
         edges[at] = 0;
         return Some(n);
