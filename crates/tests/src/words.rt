@@ -109,6 +109,7 @@ fn check_back(heap: Global, words: &[u32]) -> Result<(), Fail> {
 fn there_and_back(rt: LibcRuntime) -> Result<(), Fail> {
     check_back(rt.alloc(), &[1, 0])?;
     check_back(rt.alloc(), &[3, 0, 1, 4, 0, 0, 0, 0])?;
+    check_back(rt.alloc(), &alone([1, 1, 2, 3]))?;
     for row in EDGES {
         check_back(rt.alloc(), &alone(row))?;
     }
