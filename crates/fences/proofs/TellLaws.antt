@@ -13,7 +13,6 @@ use Rattle.std.proofs.shelf.Tests.{cases-eq}
 use Rattle.model.specs.Machine.{Move, next, out}
 use Rattle.model.specs.Fences.{Spot}
 use Rattle.explore.specs.Found.{move-of}
-use Rattle.explore.proofs.MoveNumbers.{move-next, move-out}
 use Rattle.hitting.specs.Masks.{bit}
 use Rattle.hitting.specs.Spots as hit
 use Rattle.hitting.specs.Spots.{with-spot, spots-of}
@@ -22,13 +21,6 @@ use Rattle.report.proofs.Written.{drop-further}
 use Rattle.spots.specs.Masks.{spot-of, spots}
 use Rattle.fences.specs.Rows.{Wrote}
 use Rattle.fences.specs.Told.{text-ms, text-ss}
-
--- the word of one move
-pub word-next : (n m : ℕ) → m < n → text-ms (move-of n m ∷ []) ≡ m ∷ []
-word-next n m h = ap (λ (z : Move). text-ms (z ∷ [])) (move-next n m h)
-
-pub word-out : (n m : ℕ) → n ≤ m → text-ms (move-of n m ∷ []) ≡ (4 + (m - n)) ∷ []
-word-out n m h = ap (λ (z : Move). text-ms (z ∷ [])) (move-out n m h)
 
 -- one move more
 ms-append : (ms ns : List Move) → text-ms (ms ++ ns) ≡ text-ms ms ++ text-ms ns
@@ -84,7 +76,7 @@ none-left : (s x : ℕ) → hit.spots 0 s x ≡ []
 unfolding hit.spots
 none-left s x = refl
 
-pub up-to-all : (x s : ℕ) → s ≡ 32 → x < 2 ^ 32 → up-to x s ≡ spots-of x
+up-to-all : (x s : ℕ) → s ≡ 32 → x < 2 ^ 32 → up-to x s ≡ spots-of x
 up-to-all x s e h =
     sym (append-nil (up-to x s)) ∙ ap (λ (z : List ℕ). up-to x s ++ z) (sym (none-left s (x % 2 ^ 0))) ∙ all-spots x s 0 (omega arith) h
 
@@ -92,7 +84,7 @@ with-short : (d s : ℕ) → length (with-spot d s []) ≤ 1
 with-short zero s = omega arith
 with-short (suc d) s = omega arith
 
-pub up-to-short : (x s : ℕ) → length (up-to x s) ≤ s
+up-to-short : (x s : ℕ) → length (up-to x s) ≤ s
 up-to-short x zero = omega arith
 up-to-short x (suc s) =
     let i = up-to-short x s in
@@ -101,7 +93,7 @@ up-to-short x (suc s) =
     omega arith
 
 -- two words for each
-pub length-ss : (ss : List Spot) → length (text-ss ss) ≡ 2 * length ss
+length-ss : (ss : List Spot) → length (text-ss ss) ≡ 2 * length ss
 length-ss [] = refl
 length-ss (s ∷ ss) = let i = length-ss ss in omega arith
 
@@ -113,14 +105,14 @@ ss-append (s ∷ ss) ts = ap (λ (z : List ℕ). s .thread ∷ s .index ∷ z) (
 abbrev pub text-at : List ℕ → List ℕ
 text-at ps = text-ss (map spot-of ps)
 
-pub length-at : (ps : List ℕ) → length (text-at ps) ≡ 2 * length ps
+length-at : (ps : List ℕ) → length (text-at ps) ≡ 2 * length ps
 length-at ps = length-ss (map spot-of ps) ∙ ap (λ (k : ℕ). 2 * k) (length-map ps spot-of)
 
 at-append : (ps qs : List ℕ) → text-at (ps ++ qs) ≡ text-at ps ++ text-at qs
 at-append ps qs = ap text-ss (map-append spot-of ps qs) ∙ ss-append (map spot-of ps) (map spot-of qs)
 
 -- nothing written, words written after others, and one spot
-pub wrote-nothing : (o : List ℕ) (at : ℕ) → Wrote [] o o at at
+wrote-nothing : (o : List ℕ) (at : ℕ) → Wrote [] o o at at
 wrote-nothing o at = record { long = omega arith; written = sym (append-nil (take at o)); behind = refl }
 
 wrote-then : (ws vs o o₁ o₂ : List ℕ) (at mid end : ℕ) → Wrote ws o o₁ at mid → Wrote vs o₁ o₂ mid end → Wrote (ws ++ vs) o o₂ at end
