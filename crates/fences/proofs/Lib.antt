@@ -3,3 +3,4 @@ pub mod Sharing
 pub mod AllOutcomes
 pub mod RowLaws
 pub mod Listed
+pub mod Looking

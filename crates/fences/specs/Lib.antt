@@ -3,3 +3,4 @@ pub mod Sizes
 pub mod Listing
 pub mod Rows
 pub mod Says
+pub mod Searching
