@@ -1,52 +1,49 @@
 -- What a look at a set of spots gives: either the set works, or a clause that every set that works meets. And how the
 -- search goes on from one set to the next, up to the fewest and first that works.
 use mathlib.Core.Path.{_≡_, refl, sym, ap, subst, _∙_}
-use mathlib.Core.Logic.{_⊎_, inl, inr}
-use mathlib.Core.Bool.{Bool, true, false, _&&_}
+use mathlib.Core.Logic.{inl, inr}
+use mathlib.Core.Bool.{true}
 use mathlib.Core.List.{List, [], _∷_}
 use mathlib.Core.Option.{some}
-use Prim.Native.Nat.{ℕ, zero, suc, _+_, _*_, _-_, _^_, _<_, _≤_}
+use Prim.Native.Nat.{ℕ, suc, _+_, _-_, _^_, _<_, _≤_}
 use native.Mathlib.Omega.{arith}
 use lib.Bits.{bitAnd, and-comm}
-use lib.Count.{ones}
+use lib.Count.{ones, ones-le}
 use lib.Dec.{T}
-use lib.ListN.{length, getD, take}
+use lib.ListN.{length, getD, take, set}
+use Rattle.std.proofs.shelf.Lists.{length-take-le, getD-take, getD-set-same, getD-set-other}
 use Rattle.std.proofs.shelf.Tests.{cases-lt, cases-eq}
 use Rattle.model.specs.Code.{Thread, Prog, ok}
-use Rattle.model.specs.Machine.{St, Move, moves, begin, all-done, outcome, all-at-once}
+use Rattle.model.specs.Machine.{St, Move, moves, begin, outcome, all-at-once}
 use Rattle.model.specs.Fences.{Spot, put-in, fenced-ts, with-fences, Does-it, Fewest}
-use Rattle.model.specs.Guards.{guards, gmoves, hits, On}
+use Rattle.model.specs.Guards.{guards, gmoves, hits}
 use Rattle.model.specs.Outcomes.{At-once, Is-plain, Shows}
-use Rattle.model.proofs.RunsUnderGuards.{on-guards, guards-on, gmoves-less}
+use Rattle.model.proofs.RunsUnderGuards.{on-guards, gmoves-less}
 use Rattle.model.proofs.ByStates.{by-states}
 use Rattle.model.proofs.Clauses.{must-hit}
 use Rattle.model.proofs.OneEnd.{one-end}
 use Rattle.model.proofs.AlsoWaiting.{all-moves}
-use Rattle.hitting.specs.Masks.{bit, Within, Misses}
-use Rattle.hitting.specs.Post.{Next, Candidate, Fails}
-use Rattle.hitting.proofs.Halves.{ones-none, ones-zero}
-use Rattle.spots.specs.Masks.{position, spots, every-spot}
+use Rattle.hitting.specs.Masks.{Within, Misses}
+use Rattle.hitting.specs.Post.{Next-or-none}
+use Rattle.std.specs.declared.option.Option.the-variants.{Some, None}
+use Rattle.hitting.proofs.Halves.{ones-none}
+use Rattle.spots.specs.Masks.{spots, every-spot}
 use Rattle.spots.proofs.Lists.{length-spots, mask-placed}
-use Rattle.spots.proofs.Guarded.{on-bit, bit-on, misses-bits}
+use Rattle.spots.proofs.Guarded.{bit-on, misses-bits}
 use Rattle.spots.proofs.Fewest.{fewest-by-masks, some-mask-works}
 use Rattle.guard.specs.Masks.{masked, mask}
-use Rattle.guard.proofs.MaskLaws.{masked-at, at-masked, on-mask}
-use Rattle.explore.specs.Found.{state, Explored}
+use Rattle.guard.proofs.MaskLaws.{masked-at, on-mask}
+use Rattle.explore.specs.Found.{state}
 use Rattle.fences.specs.Rows.{done-at}
 use Rattle.fences.specs.Searching.{Nothing-bad, Learnt-masks, Earlier-fail}
 
--- where a spot of the mask is guarded, its bit says so
-guards-bits : (x n k : ℕ) → x < 2 ^ 32 → guards (spots x) n k ≡ true → masked x n k ≡ true
-guards-bits x n k l g =
-    let (i, b, o) = on-bit x (record { thread = n; index = k }) l (guards-on n k (spots x) g) in
-    at-masked x n k (omega arith) i o
-
+-- where a bit of the mask is set, its spot is guarded
 bits-guards : (x n k : ℕ) → x < 2 ^ 32 → masked x n k ≡ true → guards (spots x) n k ≡ true
 bits-guards x n k l m =
     let (h, i, o) = masked-at x n k m in
     on-guards (record { thread = n; index = k }) (spots x) (bit-on x (record { thread = n; index = k }) l i (omega arith) o)
 
--- runs under the guards of the list are those under the guards of the bits
+-- so runs under the guards of the spots are runs under those of the bits
 bits-run : (x : ℕ) (p : Prog) (s t : St) (ms : List Move) → x < 2 ^ 32 → gmoves (guards (spots x)) p s ms ≡ some t → gmoves (masked x) p s ms ≡ some t
 bits-run x p s t ms l = gmoves-less (masked x) (guards (spots x)) p s t ms (λ n k. bits-guards x n k l)
 
@@ -102,6 +99,30 @@ learnt-fails p cs len k z learnt h e l =
     let (ms, bad, is) = learnt k h in
     fails p ms z bad l (ap (bitAnd z) (sym is) ∙ e)
 
+-- all clauses of a list are learnt
+pub misses-fails : (p : Prog) (cs : List ℕ) (z : ℕ) → Learnt-masks p cs (length cs) → Misses cs z → z < 2 ^ 32 → Does-it p (spots z) → ⊥
+misses-fails p cs z learnt (k, h, e) l = learnt-fails p cs (length cs) k z learnt h e l
+
+-- so they are of the list cut off behind those learnt
+pub learnt-slice : (p : Prog) (cs : List ℕ) (len : ℕ) → len ≤ length cs → Learnt-masks p cs len → Learnt-masks p (take len cs) (length (take len cs))
+learnt-slice p cs len le learnt k h =
+    let n = length-take-le len cs le in
+    let (ms, bad, is) = learnt k (omega arith) in
+    (ms, bad, getD-take len cs k 0 (omega arith) ∙ is)
+
+pub slice-fails : (p : Prog) (cs : List ℕ) (len z : ℕ) → len ≤ length cs → Learnt-masks p cs len → Misses (take len cs) z → z < 2 ^ 32 → Does-it p (spots z) → ⊥
+slice-fails p cs len z le learnt = misses-fails p (take len cs) z (learnt-slice p cs len le learnt)
+
+-- one clause more
+pub learnt-more : (p : Prog) (cs : List ℕ) (len c : ℕ) (ms : List Move) → len < length cs → Learnt-masks p cs len → Shows p ms → c ≡ mask (hits p (begin p) ms) → Learnt-masks p (set cs len c) (len + 1)
+learnt-more p cs len c ms le learnt bad is k h =
+    elim (cases-eq k len) [
+      | inl e ↦ (ms, bad, ap (λ (i : ℕ). getD (set cs len c) i 0) e ∙ getD-set-same cs len c 0 le ∙ is)
+      | inr n ↦
+          let (ks, b, i) = learnt k (omega arith) in
+          (ks, b, getD-set-other cs len k c 0 n ∙ i)
+    ]
+
 -- the search begins
 pub start : (p : Prog) → Earlier-fail p 0 (2 ^ 32 - 1)
 start p z l w (inl h) d = omega arith
@@ -116,6 +137,19 @@ more-bits p bits from f g z l w (inl h) d =
       | inr a ↦
           let e : ones z ≡ bits = omega arith in
           elim (cases-lt from z) [ inl b ↦ f z l w (inr (e, b)) d | inr b ↦ g z l w e b d ]
+    ]
+
+-- where no candidate is left
+pub after-none : (p : Prog) (cs : List ℕ) (bits from : ℕ) → Learnt-masks p cs (length cs) → Earlier-fail p bits from → Next-or-none cs (every-spot p) bits from None → Earlier-fail p (bits + 1) (2 ^ 32 - 1)
+after-none p cs bits from learnt f none = more-bits p bits from f (λ z l w e b d. misses-fails p cs z learnt (none z b w e) l d)
+
+-- where x is the next
+pub after-some : (p : Prog) (cs : List ℕ) (bits from x : ℕ) → Learnt-masks p cs (length cs) → Earlier-fail p bits from → Next-or-none cs (every-spot p) bits from (Some x) → Earlier-fail p bits x
+after-some p cs bits from x learnt f next z l w (inl a) d = f z l w (inl a) d
+after-some p cs bits from x learnt f next z l w (inr (e, b)) d =
+    elim (cases-lt from z) [
+      | inl a ↦ f z l w (inr (e, a)) d
+      | inr a ↦ misses-fails p cs z learnt (next .first z b a w e) l d
     ]
 
 -- after a look at x that found something bad
@@ -135,3 +169,16 @@ go-on-none p bits x h bad f =
 -- what is found
 pub found : (p : Prog) (x : ℕ) → T (ok p) → x < 2 ^ 32 → Earlier-fail p (ones x) x → Does-it p (spots x) → Fewest p (spots x)
 found p x h l f d = fewest-by-masks p x h l d f
+
+-- the next candidate works
+pub found-next : (p : Prog) (cs : List ℕ) (bits from x : ℕ) → T (ok p) → x < 2 ^ 32 → Learnt-masks p cs (length cs) → Earlier-fail p bits from → Next-or-none cs (every-spot p) bits from (Some x) → Nothing-bad p x → Fewest p (spots x)
+found-next p cs bits from x h l learnt f next good =
+    let e = next .candidate .size in
+    found p x h l (subst (λ (b : ℕ). Earlier-fail p b x) (sym e) (after-some p cs bits from x learnt f next)) (works p x h l (next .candidate .within) good)
+
+-- with more bits than there are spots, none is left
+pub ends : (p : Prog) (bits from : ℕ) → T (ok p) → 32 < bits → Earlier-fail p bits from → ⊥
+ends p bits from h many f =
+    let (x, l, w, d) = some-mask-works p h in
+    let few = ones-le 32 x l in
+    f x l w (inl (omega arith)) d
