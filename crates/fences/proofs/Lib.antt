@@ -4,3 +4,4 @@ pub mod AllOutcomes
 pub mod RowLaws
 pub mod Listed
 pub mod TellLaws
+pub mod Looking

@@ -4,3 +4,4 @@ pub mod Listing
 pub mod Rows
 pub mod Says
 pub mod Told
+pub mod Searching
