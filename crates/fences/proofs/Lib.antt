@@ -2,4 +2,5 @@
 pub mod Sharing
 pub mod AllOutcomes
 pub mod RowLaws
+pub mod LookLaws
 pub mod Listed

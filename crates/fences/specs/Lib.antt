@@ -2,4 +2,5 @@
 pub mod Sizes
 pub mod Listing
 pub mod Rows
+pub mod Looks
 pub mod Says

@@ -1,3 +1,4 @@
 // The public calls: all outcomes of a program, and the fewest fences for it.
 pub mod listing;
+pub mod looks;
 pub mod sizes;
