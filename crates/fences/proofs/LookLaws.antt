@@ -1,21 +1,21 @@
 -- Looking at guards: choosing a bad state, what it says of runs, and that a run is never too long.
 use mathlib.Core.Path.{_≡_, refl, sym, ap, subst, _∙_}
 use mathlib.Core.Logic.{inl, inr}
-use mathlib.Core.Bool.{Bool, true, false, _&&_}
+use mathlib.Core.Bool.{true, _&&_}
 use mathlib.Core.List.{List, [], _∷_, map}
 use mathlib.Core.Option.{some}
-use Prim.Native.Nat.{ℕ, zero, suc, _+_, _*_, _<_, _≤_}
+use Prim.Native.Nat.{ℕ, _+_, _*_, _≤_}
 use native.Mathlib.Omega.{arith}
 use lib.Bits.{bitAnd}
-use lib.Dec.{T, leb}
+use lib.Dec.{leb}
 use lib.ListN.{length, take}
 use Rattle.std.specs.declared.option.Option.{Option}
 use Rattle.std.specs.declared.option.Option.the-variants.{Some, None}
 use Rattle.std.proofs.shelf.Tests.{cases-eq, leb-true}
 use Rattle.std.proofs.shelf.Lists.{length-map}
 use Rattle.model.specs.Code.{Prog, ok-t, ok-ts, ok, size}
-use Rattle.model.specs.Machine.{St, Move, moves, begin, all-done, all-at-once}
-use Rattle.model.specs.Guards.{gmoves, hits}
+use Rattle.model.specs.Machine.{St, Move, moves, begin, all-done}
+use Rattle.model.specs.Guards.{hits}
 use Rattle.model.proofs.Tools.{T-true, and-both}
 use Rattle.model.proofs.RunLength.{run-length}
 use Rattle.program.specs.declared.threads.Program.{Program}
@@ -29,11 +29,11 @@ use Rattle.graph.proofs.Walked.{walk-fewer}
 use Rattle.graph.proofs.Asked.{traced-from}
 use Rattle.explore.specs.Found.{moves-of, move-of, state, Explored}
 use Rattle.once.specs.Once.{Marks-once}
-use Rattle.guard.specs.Masks.{masked, mask}
+use Rattle.guard.specs.Masks.{mask}
 use Rattle.guard.specs.Rules.{guarded, Askable, AllHits}
 use Rattle.guard.proofs.GuardedWalks.{guarded-ahead, guarded-fewer, walk-moves, walk-clear, run-marked}
 use Rattle.fences.specs.Rows.{done-at}
-use Rattle.fences.specs.Looks.{Chosen, Bad, All-good, Looked, All-below, Learned}
+use Rattle.fences.specs.Looks.{Chosen, Bad, Looked, All-below, Learned}
 
 -- one state more that is not bad
 pub chosen-skip : (p : Prog) (q once cost : List ℕ) (i : ℕ) (best : Option ℕ) → Chosen p q once cost i best → (done-at p q i ≡ true → Marked cost i → Marked once i) → Chosen p q once cost (i + 1) best
@@ -44,16 +44,6 @@ chosen-skip p q once cost i None h f =
       | inl e ↦ subst (Marked once) (sym e) (f (ap (done-at p q) (sym e) ∙ d) (subst (Marked cost) e m))
       | inr ne ↦ h j (omega arith) d m
     ]
--- one is chosen already
-pub chosen-keep : (p : Prog) (q once cost : List ℕ) (i : ℕ) (best : Option ℕ) → Chosen p q once cost i best → (j : ℕ) × (best ≡ Some j) → Chosen p q once cost (i + 1) best
-chosen-keep p q once cost i best h (j, e) =
-    let k = subst (λ (b : Option ℕ). Chosen p q once cost i b) e h in
-    subst (λ (b : Option ℕ). Chosen p q once cost (i + 1) b) (sym e) (let l = k .0 in omega arith, k .1, k .2, k .3)
-pub chosen-below : (p : Prog) (q once cost : List ℕ) (i n : ℕ) (best : Option ℕ) → Chosen p q once cost i best → i ≤ n → (j : ℕ) → best ≡ Some j → j < n
-chosen-below p q once cost i n best h l j e =
-    let k = subst (λ (b : Option ℕ). Chosen p q once cost i b) e h in
-    let m = k .0 in
-    omega arith
 
 -- what the search and the choice say of runs
 pub looked : (p : Prog) (q g once : List ℕ) (guards n : ℕ) (cost from : List ℕ) (r : Option ℕ) → Explored p q g n → Marks-once p q n once → Searched (guarded (length p) q g guards) (moves-of (length p)) n cost from → Chosen p q once cost n r → Looked p q g guards n cost from r
