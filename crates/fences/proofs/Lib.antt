@@ -2,6 +2,7 @@
 pub mod Sharing
 pub mod AllOutcomes
 pub mod RowLaws
+pub mod LookLaws
 pub mod Listed
 pub mod TellLaws
 pub mod Looking

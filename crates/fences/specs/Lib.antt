@@ -2,6 +2,7 @@
 pub mod Sizes
 pub mod Listing
 pub mod Rows
+pub mod Looks
 pub mod Says
 pub mod Told
 pub mod Searching

@@ -1,4 +1,5 @@
 // The public calls: all outcomes of a program, and the fewest fences for it.
 pub mod listing;
+pub mod looks;
 pub mod sizes;
 pub mod telling;

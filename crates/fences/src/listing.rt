@@ -28,7 +28,7 @@ pub enum Listed {
 }
 
 // The words of state `i`.
-fn record(queue: &[u32], words: usize, i: usize) -> &[u32]
+pub fn record(queue: &[u32], words: usize, i: usize) -> &[u32]
     requires { ⌜ i * words + words ≤ length (now queue) ⌝ }
     ensures { λ r. ⌜ now r ≡ rec (now (queue .entry)) words i ⌝ }
 {
