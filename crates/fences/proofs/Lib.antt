@@ -5,4 +5,5 @@ pub mod RowLaws
 pub mod LookLaws
 pub mod Listed
 pub mod TellLaws
-pub mod Looking
+pub mod SearchLaws
+pub mod Answered

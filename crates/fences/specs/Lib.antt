@@ -6,3 +6,5 @@ pub mod Looks
 pub mod Says
 pub mod Told
 pub mod Searching
+pub mod Fewest
+pub mod Answers

@@ -11,7 +11,7 @@ use lib.Bits.{bitAnd, and-comm}
 use lib.Count.{ones, ones-le}
 use lib.Dec.{T}
 use lib.ListN.{length, getD, take, set}
-use Rattle.std.proofs.shelf.Lists.{length-take-le, getD-take, getD-set-same, getD-set-other}
+use Rattle.std.proofs.shelf.Lists.{length-set, length-take-le, getD-take, getD-set-same, getD-set-other}
 use Rattle.std.proofs.shelf.Tests.{cases-lt, cases-eq}
 use Rattle.model.specs.Code.{Thread, Prog, ok}
 use Rattle.model.specs.Machine.{St, Move, moves, begin, outcome, all-at-once}
@@ -36,6 +36,7 @@ use Rattle.guard.proofs.MaskLaws.{masked-at, on-mask}
 use Rattle.explore.specs.Found.{state}
 use Rattle.fences.specs.Rows.{done-at}
 use Rattle.fences.specs.Searching.{Nothing-bad, Learnt-masks, Earlier-fail}
+use Rattle.fences.specs.Fewest.{Kept-or-not}
 
 -- where a bit of the mask is set, its spot is guarded
 bits-guards : (x n k : ℕ) → x < 2 ^ 32 → masked x n k ≡ true → guards (spots x) n k ≡ true
@@ -182,3 +183,18 @@ ends p bits from h many f =
     let (x, l, w, d) = some-mask-works p h in
     let few = ones-le 32 x l in
     f x l w (inl (omega arith)) d
+
+-- a clause kept or left out
+pub kept-learnt : (p : Prog) (cs cs′ : List ℕ) (len c r : ℕ) (ms : List Move) → Kept-or-not cs len c cs′ r → len ≤ length cs → Learnt-masks p cs len → Shows p ms → c ≡ mask (hits p (begin p) ms) → (r ≤ length cs′) × Learnt-masks p cs′ r
+kept-learnt p cs cs′ len c r ms k h l s e =
+    elim k
+      [ inl a ↦
+        let b : r ≤ length cs = let z = a .0 in omega arith in
+        ( subst (λ (x : List ℕ). r ≤ length x) (sym (a .1)) b
+        , subst (λ (x : List ℕ). Learnt-masks p x r) (sym (a .1)) (subst (λ (x : ℕ). Learnt-masks p cs x) (sym (a .0)) l) )
+      | inr a ↦
+        let n = length-set cs len c in
+        let b : r ≤ length (set cs len c) = let z = a .1 in let y = a .0 in omega arith in
+        ( subst (λ (x : List ℕ). r ≤ length x) (sym (a .2)) b
+        , subst (λ (x : List ℕ). Learnt-masks p x r) (sym (a .2)) (subst (λ (x : ℕ). Learnt-masks p (set cs len c) x) (sym (a .1)) (learnt-more p cs len c ms (a .0) l s e)) )
+      ]
