@@ -1,0 +1,21 @@
+// The readable form of programs: columns, one to a thread.
+ghost use Rattle.text.specs.Fine.{Every-program};
+
+pub mod bytes;
+pub mod cells;
+pub mod faults;
+mod misfits;
+pub mod naming;
+pub mod pages;
+pub mod places;
+pub mod printing;
+pub mod reading;
+pub mod source;
+pub mod tokens;
+
+// Every program that words allow can be printed and read back, under any names for its threads: a theorem, and no code.
+pub fn every_program_has_a_text() -> u8
+    ensures { λ _. ⌜ Every-program ⌝ }
+{
+    0
+}
