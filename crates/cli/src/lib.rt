@@ -3,4 +3,5 @@ pub mod arguments;
 pub mod input;
 pub mod lines;
 pub mod numbers;
+pub mod shown;
 pub mod troubles;

@@ -24,10 +24,8 @@ pub enum Trouble {
     NoNumber { line: u64, column: usize, byte: u8 },
     // a number that is no word
     LargeNumber { line: u64, column: usize },
-    // more states than the memory holds
-    Crowded { file: String },
-    // more outcomes than the memory holds
-    ManyOutcomes { file: String },
+    // a program for which the call that was to answer says why it does not
+    Unanswered { file: String, why: &'static str },
 }
 
 pub impl From<AllocError> for Trouble as TroubleFromAlloc {
@@ -62,8 +60,7 @@ pub impl fmt::Display for Trouble as TroubleDisplay {
             Trouble::LongLine { line } => write!(f, "standard input:{line}: more than 4096 bytes in a line"),
             Trouble::NoNumber { line, column, byte } => write!(f, "standard input:{line}:{column}: expected a number, found the byte {byte}"),
             Trouble::LargeNumber { line, column } => write!(f, "standard input:{line}:{column}: expected a number below 4294967296, found a larger one"),
-            Trouble::Crowded { file } => write!(f, "{file}: crowded: more states than 4 MiB hold"),
-            Trouble::ManyOutcomes { file } => write!(f, "{file}: more outcomes than 4 MiB hold"),
+            Trouble::Unanswered { file, why } => write!(f, "{file}: {why}"),
         }
     }
 }
