@@ -129,10 +129,10 @@ among-inv : {s : St} {l : List St} → Among s l → AmongV s l
 unfolding AmongV
 among-inv at-first = inl refl
 among-inv (behind a) = inr a
-listed : ℕ → List ℕ → ℕ → List St
+unfoldable pub listed : ℕ → List ℕ → ℕ → List St
 listed t q zero = []
 listed t q (suc n) = state t q n ∷ listed t q n
-length-listed : (t : ℕ) (q : List ℕ) (n : ℕ) → length (listed t q n) ≡ n
+pub length-listed : (t : ℕ) (q : List ℕ) (n : ℕ) → length (listed t q n) ≡ n
 unfolding listed
 length-listed t q zero = refl
 length-listed t q (suc n) = ap suc (length-listed t q n)
@@ -140,16 +140,24 @@ among-listed : (t : ℕ) (q : List ℕ) (n : ℕ) (s : St) → Among s (listed t
 unfolding listed AmongV
 among-listed t q zero s a = absurd (among-inv a)
 among-listed t q (suc n) s a = elim (among-inv a) [ inl e ↦ (n, omega arith, e) | inr b ↦ let (i, h, e) = among-listed t q n s b in (i, omega arith, e) ]
-different : (p : Prog) (q : List ℕ) (n k : ℕ) → Found p q n → k ≤ n → Different (listed (length p) q k)
+pub different : (p : Prog) (q : List ℕ) (n k : ℕ) → Found p q n → k ≤ n → Different (listed (length p) q k)
 unfolding listed
 different p q n zero f h = tt
 different p q n (suc k) f h =
     ( (λ a. let (i, l, e) = among-listed (length p) q k (state (length p) q k) a in let g = f .apart k i (omega arith) (omega arith) e in omega arith)
     , different p q n k f (omega arith) )
-come-to : (p : Prog) (q : List ℕ) (n k : ℕ) → Found p q n → k ≤ n → All-come-to p (listed (length p) q k)
+pub come-to : (p : Prog) (q : List ℕ) (n k : ℕ) → Found p q n → k ≤ n → All-come-to p (listed (length p) q k)
 unfolding listed
 come-to p q n zero f h = tt
 come-to p q n (suc k) f h = (f .come k (omega arith), come-to p q n k f (omega arith))
+pub listed-among : (t : ℕ) (q : List ℕ) (n i : ℕ) → i < n → Among (state t q i) (listed t q n)
+unfolding listed
+listed-among t q zero i h = absurd (omega arith)
+listed-among t q (suc n) i h =
+    elim (last-or i n (omega arith))
+      [ inl l ↦ behind (listed-among t q n i l)
+      | inr e ↦ subst (λ (k : ℕ). Among (state t q k) (state t q n ∷ listed t q n)) (sym e) at-first
+      ]
 pub crowded : (p : Prog) (q : List ℕ) (n : ℕ) (key : List ℕ) (t : St) (ns : List Move) → Found p q n → Packs key t → moves p (begin p) ns ≡ some t → ((i : ℕ) → i < n → rec q (width (length p)) i ≡ key → ⊥) → Crowded p n
 crowded p q n key t ns f packs run new =
     let w = width (length p) in

@@ -10,12 +10,14 @@ module _ {A : Type 0} where
   of-1 [] d h = absurd (omega arith)
   of-1 (a ∷ []) d h = refl
   of-1 (a ∷ b ∷ xs) d h = absurd (omega arith)
+
   pub of-3 : (xs : List A) (d : A) → length xs ≡ 3 → xs ≡ getD xs 0 d ∷ getD xs 1 d ∷ getD xs 2 d ∷ []
   of-3 [] d h = absurd (omega arith)
   of-3 (a ∷ []) d h = absurd (omega arith)
   of-3 (a ∷ b ∷ []) d h = absurd (omega arith)
   of-3 (a ∷ b ∷ c ∷ []) d h = refl
   of-3 (a ∷ b ∷ c ∷ e ∷ xs) d h = absurd (omega arith)
+
   pub of-5 : (xs : List A) (d : A) → length xs ≡ 5 → xs ≡ getD xs 0 d ∷ getD xs 1 d ∷ getD xs 2 d ∷ getD xs 3 d ∷ getD xs 4 d ∷ []
   of-5 [] d h = absurd (omega arith)
   of-5 (a ∷ []) d h = absurd (omega arith)

@@ -20,9 +20,11 @@ use Rattle.text.proofs.Tidy.{tidy, lined, all-append, all-replicate, lined-fro
 -- the cells of line j
 abbrev pub cells : List Word → ℕ → List Column → List (List ℕ)
 cells ns j cs = map (λ (c : Column). show-cell ns c j) cs
+
 abbrev pub All-tidy : List Word → ℕ → List Column → Type 0
 All-tidy ns j [] = Unit {0}
 All-tidy ns j (c ∷ cs) = (all tidy (show-cell ns c j) ≡ true) × All-tidy ns j cs
+
 -- pieces with the same tokens
 abbrev pub Alike : List (List ℕ) → List (List ℕ) → Type 0
 Alike [] [] = Unit {0}
@@ -42,6 +44,7 @@ row-alike (p ∷ ps) (c ∷ cs) h k s =
     go : (o : Option Page) → ((t : Page) → row (suc k) t ps ≡ row (suc k) t cs) → opt o none (λ (t : Page). row (suc k) t ps) ≡ opt o none (λ (t : Page). row (suc k) t cs)
     go none f = refl
     go (some t) f = f t
+
 pub begins-alike : (ps cs : List (List ℕ)) → Alike ps cs → (s : Page) → each begins s ps ≡ each begins s cs
 begins-alike [] [] h s = refl
 begins-alike [] (c ∷ cs) h s = absurd h
@@ -66,6 +69,7 @@ spaced-alike (b ∷ bs) c cs h = go (pieces 124 (b ∷ bs)) h
 module _ (ns : List Word) (j : ℕ) where
   filled-tidy : (c : Column) → all tidy (show-cell ns c j) ≡ true → all tidy (filled ns c j ++ 32 ∷ []) ≡ true
   filled-tidy c e = all-append tidy (filled ns c j) (32 ∷ []) (all-append tidy (show-cell ns c j) (replicate (width ns c - length (show-cell ns c j)) 32) e (all-replicate tidy (width ns c - length (show-cell ns c j)) 32 refl)) refl
+
   pub line-alike : (c : Column) (cs : List Column) → All-tidy ns j (c ∷ cs) → Alike (pieces 124 (show-line ns j (c ∷ cs))) (cells ns j (c ∷ cs))
   line-alike c [] h = subst (λ (ps : List (List ℕ)). Alike ps (cells ns j (c ∷ []))) (sym (pieces-one 124 (show-cell ns c j) (no-bar (show-cell ns c j) (h .0)))) (refl, tt)
   line-alike c (d ∷ cs) h =
@@ -75,9 +79,11 @@ module _ (ns : List Word) (j : ℕ) where
       let parts = ap (pieces 124) whole ∙ pieces-at 124 (filled ns c j ++ 32 ∷ []) rest (no-bar (filled ns c j ++ 32 ∷ []) (filled-tidy c (h .0))) in
       let same : tokens (filled ns c j ++ 32 ∷ []) ≡ tokens (show-cell ns c j) = trailing (at [] []) (filled ns c j) 1 ∙ trailing (at [] []) (show-cell ns c j) n in
       subst (λ (ps : List (List ℕ)). Alike ps (cells ns j (c ∷ d ∷ cs))) (sym parts) (same, spaced-alike (show-line ns j (d ∷ cs)) (show-cell ns d j) (cells ns j cs) (line-alike d cs (h .1)))
+
   spaced-lined : (bs : List ℕ) → all lined bs ≡ true → all lined (spaced bs) ≡ true
   spaced-lined [] e = refl
   spaced-lined (b ∷ bs) e = e
+
   pub line-lined : (cs : List Column) → All-tidy ns j cs → all lined (show-line ns j cs) ≡ true
   line-lined [] h = refl
   line-lined (c ∷ []) h = lined-from (show-cell ns c j) (h .0)
@@ -85,13 +91,16 @@ module _ (ns : List Word) (j : ℕ) where
       all-append lined (filled ns c j) (codes " |" ++ spaced (show-line ns j (d ∷ cs)))
       (lined-from (filled ns c j) (all-append tidy (show-cell ns c j) (replicate (width ns c - length (show-cell ns c j)) 32) (h .0) (all-replicate tidy (width ns c - length (show-cell ns c j)) 32 refl)))
       (spaced-lined (show-line ns j (d ∷ cs)) (line-lined (d ∷ cs) (h .1)))
+
 all-blank-append : (xs ys : List ℕ) → all blank ys ≡ false → all blank (xs ++ ys) ≡ false
 all-blank-append [] ys e = e
 all-blank-append (x ∷ xs) ys e = and-right (blank x) (all blank (xs ++ ys)) (all-blank-append xs ys e)
+
 -- a line of one cell is blank only where the cell is, and a line of several never
 pub line-dark : (ns : List Word) (j : ℕ) (c : Column) (cs : List Column) → (length cs ≡ 0 → all blank (show-cell ns c j) ≡ false) → all blank (show-line ns j (c ∷ cs)) ≡ false
 line-dark ns j c [] h = h refl
 line-dark ns j c (d ∷ cs) h = all-blank-append (filled ns c j) (codes " |" ++ spaced (show-line ns j (d ∷ cs))) refl
+
 -- a printed line is all content
 pub line-is : (s : Page) (bs : List ℕ) → all lined bs ≡ true → line s bs ≡ content s bs
 line-is s bs e = pick-true _ _ (line-plain bs e) ∙ ap (content s) (line-content bs e)

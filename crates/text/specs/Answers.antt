@@ -16,10 +16,12 @@ use Rattle.text.specs.declared.faults.Fault.the-variants.{Memory, Refused}
 abbrev pub Refusal : Fault → Type 0
 Refusal Memory = ⊥
 Refusal (Refused line column expected found) = Unit {0}
+
 -- what is given means what the grammar has; where the text is refused, the grammar has nothing
 abbrev pub Answers : {X A : Type 0} → Result X Fault → (X → A) → Option A → Type 0
 Answers (Ok x) f o = o ≡ some (f x)
 Answers (Err e) f o = Refusal e → o ≡ none
+
 -- the same of bytes, which are refused where they are no text
 abbrev pub Reading : List ℕ → Result Source Fault → Type 0
 Reading bs (Ok s) = Utf8 bs × (reads bs ≡ some (listing s))

@@ -16,6 +16,7 @@ test Blank = blank
 test Sign = sign
 test Plain = plain
 test (But s) = but s
+
 -- the first n bytes of bs are its first token, or none begins there
 pub record First-token (bs : List ℕ) (n : ℕ) : Type 0 where
   pub within : n ≤ length bs

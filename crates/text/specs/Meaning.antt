@@ -18,15 +18,21 @@ use Rattle.text.specs.Grammar.{Places, Column, Page, Listing}
 abbrev pub option : {A : Type 0} → std.Option A → Option A
 option None = none
 option (Some x) = some x
+
 abbrev pub words : List (String Global) → List Word
 words ss = map string-bytes ss
+
 abbrev pub token : Token → Word
 token t = t .text .now
+
 abbrev pub places : code.places.Places.Places → Places
 places p = record { numerals = p .numerals; words = words (vec-items (p .words)) }
+
 abbrev pub column : code.source.Thread.Thread → Column
 column t = record { name = string-bytes (t .name); code = map instruction (vec-items (t .code)) }
+
 abbrev pub page : code.pages.Page.Page → Page
 page p = record { columns = map column (vec-items (p .threads)); places = places (p .places) }
+
 abbrev pub listing : code.source.Source.Source → Listing
 listing s = record { columns = map column (vec-items (s .threads)); places = words (vec-items (s .places)) }

@@ -13,10 +13,12 @@ abbrev pub gap : ℕ → Bool → List ℕ
 gap zero nothing = []
 gap (suc k) true = []
 gap (suc k) false = 32 ∷ []
+
 -- what stands behind a cell: nothing behind the last, else n blanks and a bar
 abbrev pub behind : Bool → ℕ → List ℕ
 behind true n = []
 behind false n = replicate n 32 ++ codes " |"
+
 -- column k of line j, the last one or not
 abbrev pub part : List Word → ℕ → ℕ → Bool → Column → List ℕ
 part ns j k last c =

@@ -125,7 +125,13 @@ fn of_one(heap: Global, a: Token<'_>) -> Result<Instruction, Fault>
 }
 
 // The instruction of three tokens: a number into a register.
-fn of_three(heap: Global, a: Token<'_>, b: Token<'_>, c: Token<'_>, end: Spot) -> Result<Instruction, Fault>
+fn of_three(
+    heap: Global,
+    a: Token<'_>,
+    b: Token<'_>,
+    c: Token<'_>,
+    end: Spot,
+) -> Result<Instruction, Fault>
     ensures { λ r. ⌜ ((ps : Named) → Answers r (λ i. (ps, meant i)) (instruction ps (token (a .entry) ∷ token (b .entry) ∷ token (c .entry) ∷ []))) ⌝ }
 {
     if bytes::same(b.text, b"=") {
@@ -136,7 +142,15 @@ fn of_three(heap: Global, a: Token<'_>, b: Token<'_>, c: Token<'_>, end: Spot) -
 }
 
 // The instruction of five tokens: a sum, a load or a store. No instruction has more, so that a fault is at one of them.
-fn of_five(heap: Global, named: &mut Places, a: Token<'_>, b: Token<'_>, c: Token<'_>, d: Token<'_>, e: Token<'_>) -> Result<Instruction, Fault>
+fn of_five(
+    heap: Global,
+    named: &mut Places,
+    a: Token<'_>,
+    b: Token<'_>,
+    c: Token<'_>,
+    d: Token<'_>,
+    e: Token<'_>,
+) -> Result<Instruction, Fault>
     ensures { λ r. ⌜ Answers r (λ i. (places (now (named .exit)), meant i)) (instruction (places (now (named .entry))) (token (a .entry) ∷ token (b .entry) ∷ token (c .entry) ∷ token (d .entry) ∷ token (e .entry) ∷ [])) ⌝ }
 {
     if is_sum(b, d) {
@@ -152,13 +166,26 @@ fn of_five(heap: Global, named: &mut Places, a: Token<'_>, b: Token<'_>, c: Toke
 }
 
 // The instruction of a cell's tokens; `end` is where the cell ends.
-pub fn instruction(heap: Global, named: &mut Places, tokens: &[Token<'_>], end: Spot) -> Result<Instruction, Fault>
+pub fn instruction(
+    heap: Global,
+    named: &mut Places,
+    tokens: &[Token<'_>],
+    end: Spot,
+) -> Result<Instruction, Fault>
     ensures { λ r. ⌜ Answers r (λ i. (places (now (named .exit)), meant i)) (instruction (places (now (named .entry))) (map token (now (tokens .entry)))) ⌝ }
 {
     match tokens.len() {
         1 => of_one(heap, tokens[0]),
         3 => of_three(heap, tokens[0], tokens[1], tokens[2], end),
-        5 => of_five(heap, named, tokens[0], tokens[1], tokens[2], tokens[3], tokens[4]),
+        5 => of_five(
+            heap,
+            named,
+            tokens[0],
+            tokens[1],
+            tokens[2],
+            tokens[3],
+            tokens[4],
+        ),
         _ => Err(misfit(heap, tokens, end)),
     }
 }

@@ -11,7 +11,12 @@ use std::fmt;
 pub enum Fault {
     // want of memory, which is no fault of the text
     Memory,
-    Refused { line: usize, column: usize, expected: Expected, found: Found },
+    Refused {
+        line: usize,
+        column: usize,
+        expected: Expected,
+        found: Found,
+    },
 }
 
 #[derive(Clone, Copy, Debug)]
@@ -71,7 +76,10 @@ pub struct Spot {
 impl Spot {
     // So many bytes on. Past the largest number it stays there: it only tells where.
     pub fn on(self, bytes: usize) -> Spot {
-        Spot { line: self.line, column: self.column.saturating_add(bytes) }
+        Spot {
+            line: self.line,
+            column: self.column.saturating_add(bytes),
+        }
     }
 
     // What was found here instead of what was expected: these bytes, or none where the cell ends.
@@ -85,7 +93,12 @@ impl Spot {
                 Err(_) => return Fault::Memory,
             },
         };
-        Fault::Refused { line: self.line, column: self.column, expected, found }
+        Fault::Refused {
+            line: self.line,
+            column: self.column,
+            expected,
+            found,
+        }
     }
 }
 
@@ -99,7 +112,8 @@ impl Expected {
             Expected::LineEnd => "the end of the line",
             Expected::NameEnd => "`|` or the end of the line",
             Expected::EightInstructions => "at most eight instructions in a thread",
-            Expected::Instruction => "`r1 = 7`, `r1 = r2 + r3`, `r1 = [place]`, `[place] = r1` or `fence`",
+            Expected::Instruction =>
+                "`r1 = 7`, `r1 = r2 + r3`, `r1 = [place]`, `[place] = r1` or `fence`",
             Expected::Assign => "`=`",
             Expected::Right => "a number, a register or `[`",
             Expected::Plus => "`+` or the end of the cell",
@@ -139,7 +153,12 @@ pub impl fmt::Display for Fault as FaultDisplay {
     fn fmt<W: fmt::Write>(&self, f: &mut fmt::Formatter<W>) -> fmt::Result {
         match self {
             Fault::Memory => f.write_str("no memory"),
-            Fault::Refused { line, column, expected, found } => write!(f, "{line}:{column}: expected {expected}, found {found}"),
+            Fault::Refused {
+                line,
+                column,
+                expected,
+                found,
+            } => write!(f, "{line}:{column}: expected {expected}, found {found}"),
         }
     }
 }

@@ -49,7 +49,11 @@ impl Due {
     }
 
     fn either(first: bool, next: Due, second: bool, other: Due) -> Option<Due> {
-        if first { Some(next) } else { Due::if_so(second, other) }
+        if first {
+            Some(next)
+        } else {
+            Due::if_so(second, other)
+        }
     }
 
     fn expected(self) -> Expected {

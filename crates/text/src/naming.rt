@@ -72,6 +72,7 @@ impl Places {
         self.numerals = true;
         Ok(Place(x))
     }
+
     fn by_word(&mut self, heap: Global, name: &[u8], spot: Spot) -> Result<Place, Fault>
         requires { ⌜ word (now name) ≡ true ⌝ }
         ensures { λ r. ⌜ Answers r (λ x. (places (now (self .exit)), x .0)) (by-word (places (now (self .entry))) (now (name .entry))) ⌝ }

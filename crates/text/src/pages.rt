@@ -21,6 +21,11 @@ use crate::tokens;
 use crate::tokens::Token;
 use std::alloc::Global;
 
+// A program has one to four threads of at most eight instructions.
+const MOST_THREADS: usize = 4;
+
+const MOST_INSTRUCTIONS: usize = 8;
+
 #[derive(Drop)]
 pub struct Page {
     pub threads: Vec<Thread>,
@@ -28,14 +33,24 @@ pub struct Page {
 }
 
 // A cell of a thread: no tokens say nothing, others are an instruction more.
-fn does(heap: Global, named: &mut Places, thread: &mut Thread, tokens: &[Token<'_>], end: Spot) -> Result<(), Fault>
+fn does(
+    heap: Global,
+    named: &mut Places,
+    thread: &mut Thread,
+    tokens: &[Token<'_>],
+    end: Spot,
+) -> Result<(), Fault>
     ensures { λ r. ⌜ Answers r (λ _. (places (now (named .exit)), column (now (thread .exit)))) (does (places (now (named .entry))) (column (now (thread .entry))) (map token (now (tokens .entry)))) ⌝ }
 {
     if tokens.is_empty() {
         return Ok(());
     }
-    if thread.code.len() >= 8 {
-        return Err(tokens[0].spot.fault(heap, Expected::EightInstructions, tokens[0].text));
+    if thread.code.len() >= MOST_INSTRUCTIONS {
+        return Err(
+            tokens[0]
+                .spot
+                .fault(heap, Expected::EightInstructions, tokens[0].text),
+        );
     }
     let instruction = cells::instruction(heap, named, tokens, end)?;
     thread.code.push(instruction)?;
@@ -59,7 +74,9 @@ fn without_cr(line: &[u8]) -> &[u8]
 // The fault of a name that is not one token.
 fn misnamed(heap: Global, tokens: &[Token<'_>], spot: Spot) -> Fault {
     if tokens.len() > 1 {
-        tokens[1].spot.fault(heap, Expected::NameEnd, tokens[1].text)
+        tokens[1]
+            .spot
+            .fault(heap, Expected::NameEnd, tokens[1].text)
     } else {
         spot.fault(heap, Expected::ThreadName, b"")
     }
@@ -72,7 +89,13 @@ impl Page {
         ensures { λ r. ⌜ Answers r (λ _. page (now (self .exit))) (cell k (page (now (self .entry))) (now (bytes .entry))) ⌝ }
     {
         let tokens = tokens::tokens(heap, bytes, spot)?;
-        does(heap, &mut self.places, &mut self.threads[k], tokens.as_slice(), spot.on(bytes.len()))?;
+        does(
+            heap,
+            &mut self.places,
+            &mut self.threads[k],
+            tokens.as_slice(),
+            spot.on(bytes.len()),
+        )?;
         Ok(())
     }
     // A line of cells.
@@ -126,11 +149,15 @@ impl Page {
         if self.has(word.text) {
             return Err(word.spot.fault(heap, Expected::NewThreadName, word.text));
         }
-        if self.threads.len() >= 4 {
+        if self.threads.len() >= MOST_THREADS {
             return Err(word.spot.fault(heap, Expected::FourThreads, word.text));
         }
         let name = String::from_utf8_lossy(heap, word.text)?;
-        self.threads.push(Thread { name, code: Vec::new(heap) })?;
+        self.threads
+            .push(Thread {
+                name,
+                code: Vec::new(heap),
+            })?;
         Ok(())
     }
     // The line that names the threads.
@@ -170,7 +197,10 @@ impl Page {
         let text = without_cr(bytes);
         let plain = Kind::Plain.run(text);
         if plain < text.len() {
-            return Err(spot.on(plain).fault(heap, Expected::Text, &text[plain..plain + 1]));
+            return Err(
+                spot.on(plain)
+                    .fault(heap, Expected::Text, &text[plain..plain + 1]),
+            );
         }
         self.content(heap, &text[0..Kind::But(b'#').run(text)], spot)
     }
@@ -188,7 +218,10 @@ impl Page {
                 return Ok(spot.on(n));
             }
             rest = &rest[n + 1..];
-            spot = Spot { line: spot.line.saturating_add(1), column: 1 };
+            spot = Spot {
+                line: spot.line.saturating_add(1),
+                column: 1,
+            };
         }
     }
 }

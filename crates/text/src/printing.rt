@@ -117,7 +117,15 @@ fn put_behind(out: &mut String, last: bool, blanks: usize) -> Result<(), AllocEr
 }
 
 // Column `k` of line `j`.
-fn put_part(heap: Global, out: &mut String, names: &[String], thread: &Thread, j: usize, k: usize, last: bool) -> Result<(), AllocError>
+fn put_part(
+    heap: Global,
+    out: &mut String,
+    names: &[String],
+    thread: &Thread,
+    j: usize,
+    k: usize,
+    last: bool,
+) -> Result<(), AllocError>
     ensures { λ r. ⌜ made r (λ _. string-bytes (now (out .exit)) ≡ string-bytes (now (out .entry)) ++ part (words (now (names .entry))) j k last (column (now (thread .entry)))) ⌝ }
 {
     let text = cell(heap, names, thread, j)?;
@@ -136,7 +144,13 @@ fn ends(last: bool, text: &[u8]) -> bool
 }
 
 // Line `j`.
-fn put_line(heap: Global, out: &mut String, names: &[String], threads: &[Thread], j: usize) -> Result<(), AllocError>
+fn put_line(
+    heap: Global,
+    out: &mut String,
+    names: &[String],
+    threads: &[Thread],
+    j: usize,
+) -> Result<(), AllocError>
     ensures { λ r. ⌜ made r (λ _. string-bytes (now (out .exit)) ≡ string-bytes (now (out .entry)) ++ show-line (words (now (names .entry))) j (map column (now (threads .entry)))) ⌝ }
 {
     for k in 0..threads.len() {
@@ -161,7 +175,13 @@ fn put_rows(heap: Global, out: &mut String, source: &Source, rows: usize) -> Res
     ensures { λ r. ⌜ made r (λ _. string-bytes (now (out .exit)) ≡ string-bytes (now (out .entry)) ++ show-lines (listing (now (source .entry))) 1 rows) ⌝ }
 {
     for j in 0..rows {
-        put_line(heap, out, source.places.as_slice(), source.threads.as_slice(), j + 1)?;
+        put_line(
+            heap,
+            out,
+            source.places.as_slice(),
+            source.threads.as_slice(),
+            j + 1,
+        )?;
         out.push_str("\n")?;
     }
     Ok(())
@@ -173,7 +193,13 @@ pub fn print(heap: Global, source: &Source) -> Result<String, AllocError>
     ensures back { λ r. ⌜ made r (λ s. Fine (listing (now (source .entry))) → reads (string-bytes s) ≡ some (listing (now (source .entry)))) ⌝ }
 {
     let mut out = String::new(heap);
-    put_line(heap, &mut out, source.places.as_slice(), source.threads.as_slice(), 0)?;
+    put_line(
+        heap,
+        &mut out,
+        source.places.as_slice(),
+        source.threads.as_slice(),
+        0,
+    )?;
     out.push_str("\n")?;
     put_rows(heap, &mut out, source, height_of(source.threads.as_slice()))?;
     Ok(out)

@@ -15,21 +15,42 @@ use std::alloc::Global;
 pub fn parse(heap: Global, text: &str) -> Result<Source, Fault>
     ensures { λ r. ⌜ Answers r listing (reads (now (text .entry))) ⌝ }
 {
-    let mut page = Page { threads: Vec::new(heap), places: Places { numerals: false, words: Vec::new(heap) } };
+    let mut page = Page {
+        threads: Vec::new(heap),
+        places: Places {
+            numerals: false,
+            words: Vec::new(heap),
+        },
+    };
     let end = page.lines(heap, text.as_bytes())?;
     if page.threads.is_empty() {
-        return Err(Fault::Refused { line: end.line, column: end.column, expected: Expected::ThreadName, found: Found::TextEnd });
+        return Err(Fault::Refused {
+            line: end.line,
+            column: end.column,
+            expected: Expected::ThreadName,
+            found: Found::TextEnd,
+        });
     }
     let Page { threads, places } = page;
     let Places { numerals: _, words } = places;
-    Ok(Source { threads, places: words })
+    Ok(Source {
+        threads,
+        places: words,
+    })
 }
 
 // Where the byte `at` stands.
 fn spot_of(bytes: &[u8], at: usize) -> Spot {
     let mut spot = Spot { line: 1, column: 1 };
     for b in bytes.iter().take(at) {
-        spot = if *b == b'\n' { Spot { line: spot.line.saturating_add(1), column: 1 } } else { spot.on(1) };
+        spot = if *b == b'\n' {
+            Spot {
+                line: spot.line.saturating_add(1),
+                column: 1,
+            }
+        } else {
+            spot.on(1)
+        };
     }
     spot
 }
@@ -47,7 +68,12 @@ pub fn read(heap: Global, bytes: &[u8]) -> Result<Source, Fault>
                 Some(b) => Found::Byte(*b),
                 None => Found::TextEnd,
             };
-            Err(Fault::Refused { line: spot.line, column: spot.column, expected: Expected::Text, found })
+            Err(Fault::Refused {
+                line: spot.line,
+                column: spot.column,
+                expected: Expected::Text,
+                found,
+            })
         }
     }
 }

@@ -47,7 +47,10 @@ pub fn tokens<'a>(heap: Global, cell: &'a [u8], spot: Spot) -> Result<Vec<Token<
         if n == 0 {
             return Err(spot.on(i).fault(heap, Expected::Text, &cell[i..i + 1]));
         }
-        found.push(Token { text: &cell[i..i + n], spot: spot.on(i) })?;
+        found.push(Token {
+            text: &cell[i..i + n],
+            spot: spot.on(i),
+        })?;
         i += n;
     }
     Ok(found)

@@ -21,8 +21,8 @@ returns-then-is-empty c =
     let none = eqb-true (length ts) 0 (sym (c .if-is-empty .ensures tt)) in
     no-tokens (places (c .args .named .now)) (column (c .args .thread .now)) (map token ts) (omega arith)
 
-pub returns-then-len-ge8 : need.returns-then-len-ge8
-returns-then-len-ge8 c _ =
+pub returns-then-len-ge-MOST-INSTRUCTIONS : need.returns-then-len-ge-MOST-INSTRUCTIONS
+returns-then-len-ge-MOST-INSTRUCTIONS c _ =
     let ts = c .args .tokens .now in
     let long = length-map ts token in
     let some-token = eqb-false (length ts) 0 (sym (c .if-is-empty .ensures tt)) in

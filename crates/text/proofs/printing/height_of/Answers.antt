@@ -23,8 +23,8 @@ loop-thread-again c =
     let columns = length-map ts column in
     let threads = length-map cs (λ (d : Column). d .code) in
     let at : getD p i [] ≡ map instruction (vec-items (t .code)) =
-        getD-map (λ (d : Column). d .code) cs i (column t) [] (omega arith)
-        ∙ ap (λ (d : Column). d .code) (getD-map column ts i t (column t) (c .loop-thread-test .taken) ∙ ap column (sym (c .thread-item .is))) in
+    getD-map (λ (d : Column). d .code) cs i (column t) [] (omega arith)
+    ∙ ap (λ (d : Column). d .code) (getD-map column ts i t (column t) (c .loop-thread-test .taken) ∙ ap column (sym (c .thread-item .is))) in
     let size : c .len .result ≡ length (getD p i []) = c .len .ensures ∙ t .code .ok .0 ∙ sym (length-map (vec-items (t .code)) instruction) ∙ ap length (sym at) in
     taller p (c .loop-thread .most) i (c .len .result) (omega arith) size (c .loop-thread .inv)
     ∙ ap (λ (h : ℕ). max h (height (drop (i + 1) p))) (sym (c .max-most .ensures))

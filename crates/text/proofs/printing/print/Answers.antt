@@ -15,12 +15,12 @@ returns c =
     let first = show-line (l .places) 0 (l .columns) in
     let rows = show-lines l 1 (height (program l)) in
     let tall : c .height-of .result ≡ height (program l) =
-        c .height-of .ensures ∙ ap (λ (ts : List Thread). height (map (λ (d : Column). d .code) (map column ts))) (c .as-slice-3 .ensures .value) in
+    c .height-of .ensures ∙ ap (λ (ts : List Thread). height (map (λ (d : Column). d .code) (map column ts))) (c .as-slice-3 .ensures .value) in
     let head : string-bytes (c .put-line .last .out) ≡ first =
-        c .in-Continue-put-line .ensures tt
-        ∙ (λ i. c .new-out .ensures .bytes i ++ show-line (words (c .as-slice .ensures .value i)) 0 (map column (c .as-slice-2 .ensures .value i))) in
+    c .in-Continue-put-line .ensures tt
+    ∙ (λ i. c .new-out .ensures .bytes i ++ show-line (words (c .as-slice .ensures .value i)) 0 (map column (c .as-slice-2 .ensures .value i))) in
     let text : string-bytes (c .put-rows .last .out) ≡ shows l =
-        c .in-Continue-put-rows .ensures tt
-        ∙ (λ i. (c .in-Continue-push-str .ensures tt .bytes ∙ ap (λ (bs : List ℕ). bs ++ 10 ∷ []) head) i ++ show-lines l 1 (tall i))
-        ∙ append-assoc first (10 ∷ []) rows in
+    c .in-Continue-put-rows .ensures tt
+    ∙ (λ i. (c .in-Continue-push-str .ensures tt .bytes ∙ ap (λ (bs : List ℕ). bs ++ 10 ∷ []) head) i ++ show-lines l 1 (tall i))
+    ∙ append-assoc first (10 ∷ []) rows in
     record { text = text; back = λ fine. ap reads text ∙ round-trip l fine }

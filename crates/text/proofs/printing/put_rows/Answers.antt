@@ -16,7 +16,7 @@ loop-j-again c =
     let row = show-line (l .places) (j + 1) (l .columns) in
     let rest = show-lines l (suc (j + 1)) (c .args .rows - (j + 1)) in
     let put : string-bytes (c .put-line .last .out) ≡ out ++ row =
-        c .in-Continue-put-line .ensures tt ∙ (λ i. out ++ show-line (words (c .as-slice .ensures .value i)) (j + 1) (map column (c .as-slice-in-loop-j .ensures .value i))) in
+    c .in-Continue-put-line .ensures tt ∙ (λ i. out ++ show-line (words (c .as-slice .ensures .value i)) (j + 1) (map column (c .as-slice-in-loop-j .ensures .value i))) in
     ap (λ (bs : List ℕ). bs ++ rest) (c .in-Continue-push-str .ensures tt .bytes ∙ ap (λ (bs : List ℕ). bs ++ 10 ∷ []) put)
     ∙ append-assoc (out ++ row) (10 ∷ []) rest ∙ append-assoc out row (10 ∷ rest)
     ∙ ap (λ (bs : List ℕ). out ++ bs) (sym (one-line l j (c .args .rows) (c .loop-j-test .taken)))

@@ -26,8 +26,8 @@ loop-i-again c =
     let l : i < length (map instruction code) = omega arith in
     let text = c .in-Continue-text .text in
     let shown : length (string-bytes text) ≡ length (show-i ns (getD (map instruction code) i fence)) =
-        ap length (c .in-Continue-text .ensures tt)
-        ∙ ap (λ (k : I). length (show-i ns k)) (sym (getD-map instruction items i _ fence (c .loop-i-test .taken)) ∙ ap (λ (us : List Instruction). getD (map instruction us) i fence) same) in
+    ap length (c .in-Continue-text .ensures tt)
+    ∙ ap (λ (k : I). length (show-i ns k)) (sym (getD-map instruction items i _ fence (c .loop-i-test .taken)) ∙ ap (λ (us : List Instruction). getD (map instruction us) i fence) same) in
     let width : c .len .result ≡ length (show-i ns (getD (map instruction code) i fence)) = c .len .ensures ∙ text .bytes .ok .0 ∙ shown in
     c .loop-i .inv ∙ wider ns (map instruction code) (c .loop-i .most) i (c .len .result) l width
     ∙ ap (λ (w : ℕ). widest ns w (drop (i + 1) (map instruction code))) (sym (c .max-most .ensures))

@@ -14,7 +14,7 @@ pub returns-then-is-empty : need.returns-then-is-empty
 returns-then-is-empty c _ =
     let last = c .lines .last .self in
     let filled : each line blank-page (pieces 10 (c .args .text .now)) ≡ some (page last) =
-        (λ i. each line (record { columns = map column (sym (c .new .ensures .items) i); places = record { numerals = false; words = words (sym (c .new-2 .ensures .items) i) } }) (pieces 10 (sym (c .as-bytes .ensures .value) i))) ∙ c .in-Continue-end .ensures tt in
+    (λ i. each line (record { columns = map column (sym (c .new .ensures .items) i); places = record { numerals = false; words = words (sym (c .new-2 .ensures .items) i) } }) (pieces 10 (sym (c .as-bytes .ensures .value) i))) ∙ c .in-Continue-end .ensures tt in
     let no-names : empty (page last .columns) ≡ true = sym (empty-map column (vec-items (last .threads)) _ (last .threads .ok .0)) ∙ sym (c .is-empty .ensures) ∙ c .if-is-empty .taken in
     opt-is none whole filled ∙ pick-true _ _ no-names
 
@@ -22,6 +22,6 @@ pub returns : need.returns
 returns c =
     let last = c .lines .last .self in
     let filled : each line blank-page (pieces 10 (c .args .text .now)) ≡ some (page last) =
-        (λ i. each line (record { columns = map column (sym (c .new .ensures .items) i); places = record { numerals = false; words = words (sym (c .new-2 .ensures .items) i) } }) (pieces 10 (sym (c .as-bytes .ensures .value) i))) ∙ c .in-Continue-end .ensures tt in
+    (λ i. each line (record { columns = map column (sym (c .new .ensures .items) i); places = record { numerals = false; words = words (sym (c .new-2 .ensures .items) i) } }) (pieces 10 (sym (c .as-bytes .ensures .value) i))) ∙ c .in-Continue-end .ensures tt in
     let some-names : empty (page last .columns) ≡ false = sym (empty-map column (vec-items (last .threads)) _ (last .threads .ok .0)) ∙ sym (c .is-empty .ensures) ∙ c .if-is-empty .left in
     opt-is none whole filled ∙ pick-false _ _ some-names

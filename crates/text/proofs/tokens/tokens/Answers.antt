@@ -25,12 +25,13 @@ loop-i-again c =
     let some : 0 < n = omega arith in
     let within = c .token-len-n .ensures .within in
     let long : length (take (length cell - i) (drop i cell)) ≡ length cell - i = ap length (take-rest cell i) ∙ length-drop i cell in
-    let width : i + n - i ≡ n = omega arith in
-    (omega arith,
-     one-token cell _ (map token (vec-items (c .loop-i .found))) i n (take-rest cell i) (c .token-len-n .ensures) (c .loop-i .inv .1) some
-     ∙ ap (λ (ts : List Word). tokens-on (at ts []) (drop (i + n) cell))
-       (ap (λ (k : ℕ). map token (vec-items (c .loop-i .found)) ++ take k (drop i cell) ∷ []) (sym width)
-        ∙ sym (map-push token (vec-items (c .loop-i .found)) _) ∙ ap (map token) (sym (c .in-Continue-push .ensures tt .items))))
+    let width : i + n - i ≡ n = omega arith in (
+      omega arith,
+      one-token cell _ (map token (vec-items (c .loop-i .found))) i n (take-rest cell i) (c .token-len-n .ensures) (c .loop-i .inv .1) some
+          ∙ ap (λ (ts : List Word). tokens-on (at ts []) (drop (i + n) cell))
+          (ap (λ (k : ℕ). map token (vec-items (c .loop-i .found)) ++ take k (drop i cell) ∷ []) (sym width)
+          ∙ sym (map-push token (vec-items (c .loop-i .found)) _) ∙ ap (map token) (sym (c .in-Continue-push .ensures tt .items))),
+    )
 
 pub returns : need.returns
 returns c = last-token (c .args .cell .now) _ (c .loop-i .i) (c .loop-i-test .left) (c .loop-i .inv .1)

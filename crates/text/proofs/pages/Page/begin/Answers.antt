@@ -44,8 +44,8 @@ returns-then-has c _ =
     let seen = c .in-Continue-tokens .ensures tt ∙ ap (λ (ws : List Word). some ws) (single ts t (omega arith) (c .index-word .ensures)) in
     begins-not (page (c .args .self .now)) (c .args .cell .now) (token t ∷ []) seen (known (names (page (c .args .self .now) .columns)) (token t) (sym (c .if-has .ensures tt)))
 
-pub returns-then-len-ge4 : need.returns-then-len-ge4
-returns-then-len-ge4 c _ =
+pub returns-then-len-ge-MOST-THREADS : need.returns-then-len-ge-MOST-THREADS
+returns-then-len-ge-MOST-THREADS c _ =
     let ts = vec-items (c .in-Continue-tokens .tokens) in
     let t = c .index-word .result .now in
     let fits = c .in-Continue-tokens .tokens .ok .0 in

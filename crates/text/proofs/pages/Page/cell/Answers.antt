@@ -28,9 +28,9 @@ returns-in-Break-does c =
     let fits = c .args .self .now .threads .ok .0 in
     let seen = c .in-Continue-tokens .ensures tt ∙ ap (λ (ts : List Token). some (map token ts)) (sym (c .as-slice .ensures .value)) in
     rw (p .1, p .2) (λ refusal.
-      cell-not (c .args .k) (page (c .args .self .now)) (c .args .bytes .now) (column (c .index-mut .result .now))
-      (lent (vec-items (c .args .self .now .threads)) (c .args .k) (c .index-mut .result .now) (omega arith) (c .index-mut .ensures .value))
-      _ seen (c .in-Break-does .ensures tt refusal))
+    cell-not (c .args .k) (page (c .args .self .now)) (c .args .bytes .now) (column (c .index-mut .result .now))
+    (lent (vec-items (c .args .self .now .threads)) (c .args .k) (c .index-mut .result .now) (omega arith) (c .index-mut .ensures .value))
+    _ seen (c .in-Break-does .ensures tt refusal))
 
 pub returns : need.returns
 returns c =

@@ -16,6 +16,7 @@ use Rattle.text.proofs.pages.Page.has.Needs as need
 
 length-names : (ts : List Thread) → length (names (map column ts)) ≡ length ts
 length-names ts = length-map (map column ts) (λ (c : Column). c .name) ∙ length-map ts column
+
 -- the i-th name, compared with w
 compared : (ts us : List Thread) (i : ℕ) (t : Thread) (w bs : Word) (r : Bool) → us ≡ ts → i < length us → t ≡ getD us i t → bs ≡ string-bytes (t .name) → r ≡ same w bs → same w (getD (names (map column ts)) i []) ≡ r
 compared ts us i t w bs r e l is b s =

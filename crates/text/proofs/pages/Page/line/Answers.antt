@@ -26,6 +26,6 @@ returns c =
     let width : n - 0 ≡ n = omega arith in
     let all-plain : all plain (no-cr (c .args .bytes .now)) ≡ true = ap (all plain) (sym is) ∙ all-of plain text (c .run-plain .result) (c .run-plain .ensures .value) (omega arith) (c .run-plain .ensures .within) in
     let e : line s (c .args .bytes .now) ≡ content s (take (n - 0) text) =
-        pick-true _ _ all-plain ∙ ap (λ (bs : List ℕ). content s (before 35 bs)) (sym is)
-        ∙ ap (λ (m : ℕ). content s (take m text)) (sym (c .run .ensures .value)) ∙ ap (λ (m : ℕ). content s (take m text)) (sym width) in
+    pick-true _ _ all-plain ∙ ap (λ (bs : List ℕ). content s (before 35 bs)) (sym is)
+    ∙ ap (λ (m : ℕ). content s (take m text)) (sym (c .run .ensures .value)) ∙ ap (λ (m : ℕ). content s (take m text)) (sym width) in
     rw e (c .content .ensures)

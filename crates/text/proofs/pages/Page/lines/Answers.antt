@@ -19,7 +19,7 @@ returns-in-Break-line c =
     let n = c .run-n .result in
     let width : n - 0 ≡ n = omega arith in
     rw (p .1, p .2) (λ refusal. c .loop-rest .inv .1 ∙
-      each-none 10 rest _ n (c .run-n .ensures .value) (ap (λ (m : ℕ). take m rest) width) line (page (c .loop-rest .self)) (c .in-Break-line .ensures tt refusal))
+    each-none 10 rest _ n (c .run-n .ensures .value) (ap (λ (m : ℕ). take m rest) width) line (page (c .loop-rest .self)) (c .in-Break-line .ensures tt refusal))
 
 pub returns-then-n-rest : need.returns-then-n-rest
 returns-then-n-rest c =
@@ -35,8 +35,9 @@ loop-rest-again c =
     let n = c .run-n .result in
     let width : n - 0 ≡ n = omega arith in
     let left = take-rest rest (n + 1) in
-    let long : length (take (length rest - (n + 1)) (drop (n + 1) rest)) ≡ length rest - (n + 1) = ap length left ∙ length-drop (n + 1) rest in
-    (omega (arith, c .loop-rest .inv .0),
-     c .loop-rest .inv .1 ∙
-     each-more 10 rest _ n (c .run-n .ensures .value) (ap (λ (m : ℕ). take m rest) width) line (page (c .loop-rest .self)) (page (c .line .last .self)) (omega arith) (c .in-Continue-line .ensures tt)
-     ∙ ap (λ (bs : List ℕ). each line (page (c .line .last .self)) (pieces 10 bs)) (sym left))
+    let long : length (take (length rest - (n + 1)) (drop (n + 1) rest)) ≡ length rest - (n + 1) = ap length left ∙ length-drop (n + 1) rest in (
+      omega (arith, c .loop-rest .inv .0),
+      c .loop-rest .inv .1 ∙
+          each-more 10 rest _ n (c .run-n .ensures .value) (ap (λ (m : ℕ). take m rest) width) line (page (c .loop-rest .self)) (page (c .line .last .self)) (omega arith) (c .in-Continue-line .ensures tt)
+          ∙ ap (λ (bs : List ℕ). each line (page (c .line .last .self)) (pieces 10 bs)) (sym left),
+    )

@@ -31,7 +31,7 @@ returns-in-Break-cell c =
     let n = c .run-n .result in
     let width : n - 0 ≡ n = omega arith in
     rw (p .1, p .2) (λ refusal. c .loop-k .inv .1 ∙
-      row-none 124 rest _ n (c .run-n .ensures .value) (ap (λ (m : ℕ). take m rest) width) (c .loop-k .k) (page (c .loop-k .self)) (c .in-Break-cell .ensures tt refusal))
+    row-none 124 rest _ n (c .run-n .ensures .value) (ap (λ (m : ℕ). take m rest) width) (c .loop-k .k) (page (c .loop-k .self)) (c .in-Break-cell .ensures tt refusal))
 
 pub returns-then-n-rest : need.returns-then-n-rest
 returns-then-n-rest c =
@@ -47,8 +47,9 @@ loop-k-again c =
     let n = c .run-n .result in
     let width : n - 0 ≡ n = omega arith in
     let left = take-rest rest (n + 1) in
-    let long : length (take (length rest - (n + 1)) (drop (n + 1) rest)) ≡ length rest - (n + 1) = ap length left ∙ length-drop (n + 1) rest in
-    (omega (arith, c .loop-k .inv .0),
-     c .loop-k .inv .1 ∙
-     row-more 124 rest _ n (c .run-n .ensures .value) (ap (λ (m : ℕ). take m rest) width) (c .loop-k .k) (page (c .loop-k .self)) (page (c .cell .last .self)) (omega arith) (c .in-Continue-cell .ensures tt)
-     ∙ ap (λ (bs : List ℕ). row (c .loop-k .k + 1) (page (c .cell .last .self)) (pieces 124 bs)) (sym left))
+    let long : length (take (length rest - (n + 1)) (drop (n + 1) rest)) ≡ length rest - (n + 1) = ap length left ∙ length-drop (n + 1) rest in (
+      omega (arith, c .loop-k .inv .0),
+      c .loop-k .inv .1 ∙
+          row-more 124 rest _ n (c .run-n .ensures .value) (ap (λ (m : ℕ). take m rest) width) (c .loop-k .k) (page (c .loop-k .self)) (page (c .cell .last .self)) (omega arith) (c .in-Continue-cell .ensures tt)
+          ∙ ap (λ (bs : List ℕ). row (c .loop-k .k + 1) (page (c .cell .last .self)) (pieces 124 bs)) (sym left),
+    )

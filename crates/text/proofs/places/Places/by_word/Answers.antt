@@ -32,8 +32,8 @@ returns c =
     let fits = c .args .self .now .words .ok .0 in
     let few = c .args .self .now .few in
     let more : words ws ++ w ∷ [] ≡ words (vec-items (c .push .last .self)) =
-        ap (λ (v : Word). words ws ++ v ∷ []) (sym (c .in-Continue-from-utf8-lossy .ensures tt .made (word-utf8 w (c .pre))))
-        ∙ sym (map-push string-bytes ws (c .in-Continue-from-utf8-lossy .field-0)) ∙ ap (map string-bytes) (sym (c .in-Continue-push .ensures tt .items)) in
+    ap (λ (v : Word). words ws ++ v ∷ []) (sym (c .in-Continue-from-utf8-lossy .ensures tt .made (word-utf8 w (c .pre))))
+    ∙ sym (map-push string-bytes ws (c .in-Continue-from-utf8-lossy .field-0)) ∙ ap (map string-bytes) (sym (c .in-Continue-push .ensures tt .items)) in
     let next : length (words ws) ≡ c .len-next .result = omega arith in
     new (places (c .args .self .now)) w (c .if-self .left) none-yet (omega arith)
     ∙ (λ i. some (record { numerals = sym (c .if-self .left) i; words = more i }, next i))

@@ -1,0 +1,5 @@
+-- What the public calls promise.
+pub mod Sizes
+pub mod Listing
+pub mod Rows
+pub mod Says

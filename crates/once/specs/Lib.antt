@@ -1,0 +1,2 @@
+-- What it means that a state is marked.
+pub mod Once

@@ -1,0 +1,2 @@
+-- Lemmas on fields written one after another.
+pub mod Written

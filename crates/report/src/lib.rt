@@ -1,0 +1,2 @@
+// Outcomes as words.
+pub mod outcomes;

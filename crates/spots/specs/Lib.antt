@@ -1,0 +1,2 @@
+-- Lists of spots for fences as the bits of a number.
+pub mod Masks

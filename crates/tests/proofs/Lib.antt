@@ -1,0 +1,2 @@
+-- Lemmas on runs of chosen moves.
+pub mod Held
