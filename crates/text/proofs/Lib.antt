@@ -18,3 +18,4 @@ pub mod Scanning
 pub mod Spelling
 pub mod Tidy
 pub mod Turns
+pub mod WordRows

@@ -15,6 +15,7 @@ pub mod printing;
 pub mod reading;
 pub mod source;
 pub mod tokens;
+pub mod words;
 
 // Every program that words allow can be printed and read back, under any names for its threads: a theorem, and no code.
 pub fn every_program_has_a_text() -> u8

@@ -24,7 +24,7 @@ use std::alloc::AllocError;
 use std::alloc::Global;
 
 // A place by its name, or by its numeral where it has none.
-fn place(heap: Global, names: &[String], x: Place) -> Result<String, AllocError>
+pub fn place(heap: Global, names: &[String], x: Place) -> Result<String, AllocError>
     ensures { λ r. ⌜ made r (λ s. string-bytes s ≡ show-place (words (now (names .entry))) (x .0)) ⌝ }
 {
     let x = x.0;
