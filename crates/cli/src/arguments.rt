@@ -1,8 +1,8 @@
 // What a program is asked to do by its arguments: `[--help | --to-words | --words] [FILE]`.
 use crate::troubles::Trouble;
+use crate::troubles::TroubleFromAlloc;
 use crate::troubles::TroubleFromWrite;
 use std::env;
-use crate::troubles::TroubleFromAlloc;
 
 #[derive(Clone, Copy)]
 pub enum Mode {
@@ -41,7 +41,10 @@ fn with(request: Request, argument: String) -> Result<Request, Trouble> {
     if !argument.as_str().starts_with('-') {
         return match file {
             Some(_) => Err(Trouble::Surplus(argument)),
-            None => Ok(Request { mode, file: Some(argument) }),
+            None => Ok(Request {
+                mode,
+                file: Some(argument),
+            }),
         };
     }
     match (option(argument.as_str()), mode) {
@@ -53,7 +56,10 @@ fn with(request: Request, argument: String) -> Result<Request, Trouble> {
 
 // What the arguments behind the program's own name ask for.
 pub fn asked(rt: &LibcRuntime) -> Result<Request, Trouble> {
-    let mut request = Request { mode: Mode::Answer, file: None };
+    let mut request = Request {
+        mode: Mode::Answer,
+        file: None,
+    };
     for argument in env::args(rt)?.skip(1) {
         request = with(request, argument)?;
     }

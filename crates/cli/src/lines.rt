@@ -22,7 +22,10 @@ pub struct Lines {
 
 impl Lines {
     pub fn new(rt: &LibcRuntime) -> Lines {
-        Lines { reader: BufReader::new(rt.stdin()), number: 0 }
+        Lines {
+            reader: BufReader::new(rt.stdin()),
+            number: 0,
+        }
     }
 
     // The next byte, if the input has not ended.
@@ -45,7 +48,10 @@ impl Lines {
                 Ok(Some(b)) => line.push(b)?,
                 Ok(None) if line.is_empty() => return Ok(None),
                 Ok(None) => return Ok(Some(line)),
-                Err(error) => return Err(Trouble::Unreadable { file: input::name(heap, &None)?, error }),
+                Err(error) => return Err(Trouble::Unreadable {
+                    file: input::name(heap, &None)?,
+                    error,
+                }),
             }
         }
         Err(Trouble::LongLine { line: self.number })

@@ -13,7 +13,10 @@ pub fn parse(heap: Global, line: u64, bytes: &[u8]) -> Result<Vec<u32>, Trouble>
         match bytes[k] {
             b @ b'0'..=b'9' => {
                 let Some(more) = with_digit(word, b - b'0') else {
-                    return Err(Trouble::LargeNumber { line, column: k + 1 });
+                    return Err(Trouble::LargeNumber {
+                        line,
+                        column: k + 1,
+                    });
                 };
                 word = Some(more);
             }
@@ -21,7 +24,11 @@ pub fn parse(heap: Global, line: u64, bytes: &[u8]) -> Result<Vec<u32>, Trouble>
                 push(&mut words, word)?;
                 word = None;
             }
-            byte => return Err(Trouble::NoNumber { line, column: k + 1, byte }),
+            byte => return Err(Trouble::NoNumber {
+                line,
+                column: k + 1,
+                byte,
+            }),
         }
     }
     push(&mut words, word)?;
@@ -30,7 +37,9 @@ pub fn parse(heap: Global, line: u64, bytes: &[u8]) -> Result<Vec<u32>, Trouble>
 
 // The number with one more digit, if it is still a word.
 fn with_digit(word: Option<u32>, digit: u8) -> Option<u32> {
-    word.unwrap_or(0).checked_mul(10)?.checked_add(u32::from(digit))
+    word.unwrap_or(0)
+        .checked_mul(10)?
+        .checked_add(u32::from(digit))
 }
 
 fn push(words: &mut Vec<u32>, word: Option<u32>) -> Result<(), AllocError> {

@@ -57,24 +57,40 @@ fn program_names(source: &Source, x: u32) -> bool {
 }
 
 // Adds the registers that a thread uses, the first of which stands at `at`.
-fn push_registers(heap: Global, all: &mut Vec<Shown>, thread: &Thread, at: usize) -> Result<(), AllocError> {
+fn push_registers(
+    heap: Global,
+    all: &mut Vec<Shown>,
+    thread: &Thread,
+    at: usize,
+) -> Result<(), AllocError> {
     for r in 0..REGISTERS {
         if thread_uses(thread, r) {
             let name = thread.name.as_str();
             let title = format!(heap, "{name}.r{r}")?;
-            all.push(Shown { title, at: at.saturating_add(r as usize) })?;
+            all.push(Shown {
+                title,
+                at: at.saturating_add(r as usize),
+            })?;
         }
     }
     Ok(())
 }
 
 // Adds the places that the program names, the first of which stands at `at`.
-fn push_places(heap: Global, all: &mut Vec<Shown>, source: &Source, at: usize) -> Result<(), AllocError> {
+fn push_places(
+    heap: Global,
+    all: &mut Vec<Shown>,
+    source: &Source,
+    at: usize,
+) -> Result<(), AllocError> {
     for x in 0..PLACES {
         if program_names(source, x) {
             let name = printing::place(heap, source.places.as_slice(), Place(x))?;
             let title = format!(heap, "[{name}]")?;
-            all.push(Shown { title, at: at.saturating_add(x as usize) })?;
+            all.push(Shown {
+                title,
+                at: at.saturating_add(x as usize),
+            })?;
         }
     }
     Ok(())

@@ -52,14 +52,26 @@ pub impl fmt::Display for Trouble as TroubleDisplay {
         match self {
             Trouble::Memory => f.write_str("no memory"),
             Trouble::UnknownOption(option) => write!(f, "unknown option `{option}`: see --help"),
-            Trouble::Surplus(argument) => write!(f, "`{argument}` is one argument too many: see --help"),
+            Trouble::Surplus(argument) => write!(
+                f,
+                "`{argument}` is one argument too many: see --help"
+            ),
             Trouble::Unreadable { file, error } => write!(f, "{file}: {error}"),
             Trouble::Unwritable(error) => write!(f, "standard output: {error}"),
             Trouble::LongFile { file } => write!(f, "{file}: more than 65536 bytes"),
             Trouble::Refused { file, fault } => write!(f, "{file}:{fault}"),
-            Trouble::LongLine { line } => write!(f, "standard input:{line}: more than 4096 bytes in a line"),
-            Trouble::NoNumber { line, column, byte } => write!(f, "standard input:{line}:{column}: expected a number, found the byte {byte}"),
-            Trouble::LargeNumber { line, column } => write!(f, "standard input:{line}:{column}: expected a number below 4294967296, found a larger one"),
+            Trouble::LongLine { line } => write!(
+                f,
+                "standard input:{line}: more than 4096 bytes in a line"
+            ),
+            Trouble::NoNumber { line, column, byte } => write!(
+                f,
+                "standard input:{line}:{column}: expected a number, found the byte {byte}"
+            ),
+            Trouble::LargeNumber { line, column } => write!(
+                f,
+                "standard input:{line}:{column}: expected a number below 4294967296, found a larger one"
+            ),
             Trouble::Unanswered { file, why } => write!(f, "{file}: {why}"),
         }
     }

@@ -36,9 +36,21 @@ fn reads_numbers(rt: LibcRuntime) -> Result<(), Fail> {
     read(heap, b"", "")?;
     read(heap, b"1 0", "1 0")?;
     read(heap, b" 007\t4294967295 \r", "7 4294967295")?;
-    refused(heap, b"1 x", "standard input:3:3: expected a number, found the byte 120")?;
-    refused(heap, b"-1", "standard input:3:1: expected a number, found the byte 45")?;
-    refused(heap, b"4294967296", "standard input:3:10: expected a number below 4294967296, found a larger one")
+    refused(
+        heap,
+        b"1 x",
+        "standard input:3:3: expected a number, found the byte 120",
+    )?;
+    refused(
+        heap,
+        b"-1",
+        "standard input:3:1: expected a number, found the byte 45",
+    )?;
+    refused(
+        heap,
+        b"4294967296",
+        "standard input:3:10: expected a number below 4294967296, found a larger one",
+    )
 }
 
 // Registers and places that the program uses, in the order of an outcome's values.
@@ -59,7 +71,10 @@ fn shows_what_is_used(rt: LibcRuntime) -> Result<(), Fail> {
 #[test]
 fn tells_words(rt: LibcRuntime) -> Result<(), Fail> {
     let heap = rt.alloc();
-    let source = reading::parse(heap, "up | idle\nr1 = 7\nr1 = r2 + r3\nr1 = [5]\n[5] = r1\nfence")?;
+    let source = reading::parse(
+        heap,
+        "up | idle\nr1 = 7\nr1 = r2 + r3\nr1 = [5]\n[5] = r1\nfence",
+    )?;
     let words = words::to_words(heap, &source)?;
     let told = numbers::line(heap, words.as_slice())?;
     check(told.as_str() == "2 5 0 1 7 0 1 1 2 3 2 1 5 0 3 5 1 0 4 0 0 0 0")

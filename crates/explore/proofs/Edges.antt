@@ -29,18 +29,23 @@ use Rattle.explore.proofs.Finding.{Kept, state-kept, state-is, found-kept, sor
 -- where a state's words and an edge's word stand
 pub words-within : (i n limit w len : ℕ) → i < n → n ≤ limit → limit * w ≤ len → i * w + w ≤ len
 words-within i n limit w len h k l = let a = ends-within w n i h in let b = mul-le-mul-right w k in omega arith
+
 pub word-within : (i n limit w m len : ℕ) → i < n → n ≤ limit → m < w → limit * w ≤ len → i * w + m < len
 word-within i n limit w m len h k b l = let a = words-within i n limit w len h k l in omega arith
+
 -- a state's words, as the code cuts them out
 pub part-is : (q : List ℕ) (i start w w′ : ℕ) → start ≡ i * w → w ≡ w′ → take (start + w - start) (drop start q) ≡ rec q w′ i
 part-is q i start w w′ e f = ap (λ z. take (z + w - z) (drop z q)) e ∙ rec-part q w i ∙ ap (λ z. rec q z i) f
+
 pub part-length : (q : List ℕ) (start w : ℕ) → start + w ≤ length q → length (take (start + w - start) (drop start q)) ≡ w
 part-length q start w h = simp (length-take, length-drop) (omega arith)
+
 -- each edge has a place of its own
 pub same-edge : (i j m l w : ℕ) → m < w → l < w → i * w + m ≡ j * w + l → (i ≡ j) × (m ≡ l)
-same-edge i j m l w h k e =
-    ( sym (div-mul-add i w m h) ∙ ap (λ x. x / w) e ∙ div-mul-add j w l k
-    , sym (mod-mul-add i w m h) ∙ ap (λ x. x % w) e ∙ mod-mul-add j w l k )
+same-edge i j m l w h k e = (
+  sym (div-mul-add i w m h) ∙ ap (λ x. x / w) e ∙ div-mul-add j w l k,
+  sym (mod-mul-add i w m h) ∙ ap (λ x. x % w) e ∙ mod-mul-add j w l k,
+)
 
 pub earlier-node : (k l i m w : ℕ) → m < w → k * w + l < i * w + m → k ≤ i
 earlier-node k l i m w h b =
@@ -58,32 +63,33 @@ edges-more : (p : Prog) (q g : List ℕ) (n i m x : ℕ) → m < moves-of (lengt
 edges-more p q g n i m x hm hg e old k l hl b =
     let w = moves-of (length p) in
     let at = i * w + m in
-    elim (cases-eq (k * w + l) at)
-      [ inl s ↦
-        let (ek, el) = same-edge k i l m w hl hm s in
-        let v : getD (set g at x) (k * w + l) 0 ≡ x = ap (λ z. getD (set g at x) z 0) s ∙ getD-set-same g at x 0 hg in
-        subst (λ z. Edge p q n k l z) (sym v) (subst (λ z. Edge p q n z l x) (sym ek) (subst (λ z. Edge p q n i z x) (sym el) e))
+    elim (cases-eq (k * w + l) at) [
+      | inl s ↦
+          let (ek, el) = same-edge k i l m w hl hm s in
+          let v : getD (set g at x) (k * w + l) 0 ≡ x = ap (λ z. getD (set g at x) z 0) s ∙ getD-set-same g at x 0 hg in
+          subst (λ z. Edge p q n k l z) (sym v) (subst (λ z. Edge p q n z l x) (sym ek) (subst (λ z. Edge p q n i z x) (sym el) e))
       | inr ne ↦
-        let v : getD (set g at x) (k * w + l) 0 ≡ getD g (k * w + l) 0 = getD-set-other g at (k * w + l) x 0 ne in
-        subst (λ z. Edge p q n k l z) (sym v) (old k l hl (omega arith))
-      ]
+          let v : getD (set g at x) (k * w + l) 0 ≡ getD g (k * w + l) 0 = getD-set-other g at (k * w + l) x 0 ne in
+          subst (λ z. Edge p q n k l z) (sym v) (old k l hl (omega arith))
+    ]
 
 module _ (p : Prog) (s : Shape) (limit : ℕ) (q t g : List ℕ) (n i m : ℕ) (go : Going p s limit q t g n i m) (hm : m < moves-of (length p)) (hg : i * moves-of (length p) + m < length g) where
   -- a move that can't be made
   pub no-edge : (ws : List ℕ) → Stepped (λ s. move p s (move-of (length p) m)) (rec q (width (length p)) i) false ws → Visited p s limit n i m q t (set g (i * moves-of (length p) + m) 0) (Some n)
   no-edge ws st =
-      let f = go .found in
-      ( record
-          { found = f
-          ; sorted = go .sorted
-          ; near = go .near
-          ; probed = go .probed
-          ; wide = go .wide
-          ; few = go .few
-          ; here = go .here
-          ; edges = edges-more p q g n i m 0 hm hg (st (state (length p) q i) (f .good i (go .here))) (go .edges)
-          }
-      , omega arith )
+      let f = go .found in (
+        record {
+          found = f;
+          sorted = go .sorted;
+          near = go .near;
+          probed = go .probed;
+          wide = go .wide;
+          few = go .few;
+          here = go .here;
+          edges = edges-more p q g n i m 0 hm hg (st (state (length p) q i) (f .good i (go .here))) (go .edges);
+        },
+        omega arith,
+      )
 
   -- the state that a move leads to, and a run to it
   led : (key : List ℕ) → Stepped (λ s. move p s (move-of (length p) m)) (rec q (width (length p)) i) true key → (u : St) × (ms : List Move) × (move p (state (length p) q i) (move-of (length p) m) ≡ some u) × Packs key u × (moves p (begin p) ms ≡ some (state (length p) q i)) × (moves p (begin p) (ms ++ move-of (length p) m ∷ []) ≡ some u)
@@ -119,39 +125,41 @@ module _ (p : Prog) (s : Shape) (limit : ℕ) (q t g : List ℕ) (n i m : ℕ) (
       let ed : Edge p q′ n′ i m (suc j) = (r .below, ap (λ z. move p z (move-of (length p) m)) si ∙ e ∙ ap some (sym sj)) in
       let w′ = moves-of (length p) in
       let old : (x l : ℕ) → l < w′ → x * w′ + l < i * w′ + m → Edge p q′ n′ x l (getD g (x * w′ + l) 0) = λ x l hl z.
-          let hx : x < n = let y = earlier-node x l i m w′ hm z in omega arith in
-          edge-kept p q q′ n n′ x l (getD g (x * w′ + l) 0) kept hx (r .grown) (go .edges x l hl z) in
+      let hx : x < n = let y = earlier-node x l i m w′ hm z in omega arith in
+      edge-kept p q q′ n n′ x l (getD g (x * w′ + l) 0) kept hx (r .grown) (go .edges x l hl z) in
       let edges : (x l : ℕ) → l < w′ → x * w′ + l < i * w′ + (m + 1) → Edge p q′ n′ x l (getD (set g (i * w′ + m) (j + 1)) (x * w′ + l) 0) =
-          subst (λ y. (x l : ℕ) → l < w′ → x * w′ + l < i * w′ + (m + 1) → Edge p q′ n′ x l (getD (set g (i * w′ + m) y) (x * w′ + l) 0)) (sym (add-one j)) (edges-more p q′ g n′ i m (suc j) hm hg ed old) in
+      subst (λ y. (x l : ℕ) → l < w′ → x * w′ + l < i * w′ + (m + 1) → Edge p q′ n′ x l (getD (set g (i * w′ + m) y) (x * w′ + l) 0)) (sym (add-one j)) (edges-more p q′ g n′ i m (suc j) hm hg ed old) in
       let grown = r .grown in
       let by-one = r .by-one in
-      elim (cases-lt n n′)
-        [ inl lt ↦
-          let ez : n′ ≡ n + 1 = omega arith in
-          let last : rec q′ w n ≡ key = ap (rec q′ w) (sym (r .last lt)) ∙ here in
-          let new : (x : ℕ) → x < n → rec q′ w x ≡ key → ⊥ = λ x h z. r .new x h lt (ap (λ y. rec q y x) (go .wide) ∙ sym (rec-kept q q′ w n x kept h) ∙ z) in
-          ( record
-              { found = subst (Found p q′) (sym ez) (found-more p q′ n key u ns f last k b new)
-              ; sorted = subst (Sorted p q′) (sym ez) (sorted-more p q′ n key u ns f last k b i ms hi ri ln so ne)
-              ; near = subst (λ z. Near p q′ z i) (sym ez) (near-more p q′ n key u ns f last k b i ms ri ln ne)
-              ; probed = r .probed
-              ; wide = go .wide
-              ; few = r .few
-              ; here = omega arith
-              ; edges = edges
-              }
-          , by-one )
+      elim (cases-lt n n′) [
+        | inl lt ↦
+            let ez : n′ ≡ n + 1 = omega arith in
+            let last : rec q′ w n ≡ key = ap (rec q′ w) (sym (r .last lt)) ∙ here in
+            let new : (x : ℕ) → x < n → rec q′ w x ≡ key → ⊥ = λ x h z. r .new x h lt (ap (λ y. rec q y x) (go .wide) ∙ sym (rec-kept q q′ w n x kept h) ∙ z) in (
+              record {
+                found = subst (Found p q′) (sym ez) (found-more p q′ n key u ns f last k b new);
+                sorted = subst (Sorted p q′) (sym ez) (sorted-more p q′ n key u ns f last k b i ms hi ri ln so ne);
+                near = subst (λ z. Near p q′ z i) (sym ez) (near-more p q′ n key u ns f last k b i ms ri ln ne);
+                probed = r .probed;
+                wide = go .wide;
+                few = r .few;
+                here = omega arith;
+                edges = edges;
+              },
+              by-one,
+            )
         | inr ge ↦
-          let ez : n′ ≡ n = omega arith in
-          ( record
-              { found = subst (Found p q′) (sym ez) f
-              ; sorted = subst (Sorted p q′) (sym ez) so
-              ; near = subst (λ z. Near p q′ z i) (sym ez) ne
-              ; probed = r .probed
-              ; wide = go .wide
-              ; few = r .few
-              ; here = omega arith
-              ; edges = edges
-              }
-          , by-one )
-        ]
+            let ez : n′ ≡ n = omega arith in (
+              record {
+                found = subst (Found p q′) (sym ez) f;
+                sorted = subst (Sorted p q′) (sym ez) so;
+                near = subst (λ z. Near p q′ z i) (sym ez) ne;
+                probed = r .probed;
+                wide = go .wide;
+                few = r .few;
+                here = omega arith;
+                edges = edges;
+              },
+              by-one,
+            )
+      ]

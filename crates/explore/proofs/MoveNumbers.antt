@@ -13,8 +13,10 @@ use Rattle.explore.specs.Found.{move-of}
 
 pub move-next : (n m : ℕ) → m < n → move-of n m ≡ next m
 move-next n m h = ap (λ (b : Bool). pick b (next m) (out (m - n))) (lt-ltb m n h)
+
 pub move-out : (n m : ℕ) → n ≤ m → move-of n m ≡ out (m - n)
 move-out n m h = ap (λ (b : Bool). pick b (next m) (out (m - n))) (le-ltb m n h)
+
 -- a step by an equal move
 pub stepped-by : (p : Prog) (a b : Move) (ws : List ℕ) (r : Bool) (ws′ : List ℕ) → a ≡ b → Stepped (λ s. move p s b) ws r ws′ → Stepped (λ s. move p s a) ws r ws′
 stepped-by p a b ws r ws′ e h = subst (λ (m : Move). Stepped (λ s. move p s m) ws r ws′) (sym e) h

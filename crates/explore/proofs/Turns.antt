@@ -35,38 +35,38 @@ begun p s limit q t e w probed more fits g =
     let st : state (length p) q 0 ≡ begin p = state-is q (replicate (width (length p)) 0) 0 (length p) (begin p) first-rec packs (run-threads p [] (begin p) refl) in
     let is-first : (i : ℕ) → i < 1 → i ≡ 0 = λ i h. omega arith in
     let st-of : (i : ℕ) → i < 1 → state (length p) q i ≡ begin p = λ i h. ap (state (length p) q) (is-first i h) ∙ st in
-    record
-      { found =
-        record
-          { some-found = omega arith
-          ; first = st
-          ; good = λ i h. subst (λ k. Packs (rec q (width (length p)) k) (state (length p) q k)) (sym (is-first i h)) (subst (λ z. Packs (rec q (width (length p)) 0) z) (sym st) (subst (λ ws. Packs ws (begin p)) (sym first-rec) packs))
-          ; come = λ i h. ([], ap some (sym (st-of i h)))
-          ; apart = λ i j h k z. is-first i h ∙ sym (is-first j k)
-          }
-      ; sorted = λ i j ms ns h k a b. let hi : i < 1 = omega arith in let z = same-length p ms ns (begin p) (a ∙ ap some (st-of i hi)) (b ∙ ap some (st-of j k)) in omega arith
-      ; near = λ h j ms ns k a b. let z = same-length p ms ns (begin p) (a ∙ ap some st) (b ∙ ap some (st-of j k)) in omega arith
-      ; probed = probed
-      ; wide = w
-      ; few = omega arith
-      ; done = omega arith
-      ; fits = fits
-      ; edges = λ k l h b. absurd (omega arith)
-      }
+    record {
+      found =
+          record {
+            some-found = omega arith;
+            first = st;
+            good = λ i h. subst (λ k. Packs (rec q (width (length p)) k) (state (length p) q k)) (sym (is-first i h)) (subst (λ z. Packs (rec q (width (length p)) 0) z) (sym st) (subst (λ ws. Packs ws (begin p)) (sym first-rec) packs));
+            come = λ i h. ([], ap some (sym (st-of i h)));
+            apart = λ i j h k z. is-first i h ∙ sym (is-first j k);
+          };
+      sorted = λ i j ms ns h k a b. let hi : i < 1 = omega arith in let z = same-length p ms ns (begin p) (a ∙ ap some (st-of i hi)) (b ∙ ap some (st-of j k)) in omega arith;
+      near = λ h j ms ns k a b. let z = same-length p ms ns (begin p) (a ∙ ap some st) (b ∙ ap some (st-of j k)) in omega arith;
+      probed = probed;
+      wide = w;
+      few = omega arith;
+      done = omega arith;
+      fits = fits;
+      edges = λ k l h b. absurd (omega arith);
+    }
 
 -- a state's turn begins
 pub turn : (p : Prog) (s r : Shape) (limit : ℕ) (q t t′ g : List ℕ) (n i : ℕ) → Between p s limit q t g n i → i < n → r .width ≡ s .width → Probed r q t′ n → Going p r limit q t′ g n i 0
 turn p s r limit q t t′ g n i b h e probed =
-    record
-      { found = b .found
-      ; sorted = b .sorted
-      ; near = b .near h
-      ; probed = probed
-      ; wide = e ∙ b .wide
-      ; few = b .few
-      ; here = h
-      ; edges = λ k l hl z. b .edges k l (before k l hl z) hl
-      }
+    record {
+      found = b .found;
+      sorted = b .sorted;
+      near = b .near h;
+      probed = probed;
+      wide = e ∙ b .wide;
+      few = b .few;
+      here = h;
+      edges = λ k l hl z. b .edges k l (before k l hl z) hl;
+    }
   where
     before : (k l : ℕ) → l < moves-of (length p) → k * moves-of (length p) + l < i * moves-of (length p) + 0 → k < i
     before k l hl z =
@@ -76,21 +76,21 @@ turn p s r limit q t t′ g n i b h e probed =
 pub turned : (p : Prog) (s : Shape) (limit : ℕ) (q t g : List ℕ) (n i : ℕ) → Going p s limit q t g n i (moves-of (length p)) → homes s + (limit + 9) ≤ length t → Between p s limit q t g n (i + 1)
 turned p s limit q t g n i go fits =
     let hi = go .here in
-    record
-      { found = go .found
-      ; sorted = go .sorted
-      ; near = λ h j ms ns k a b.
+    record {
+      found = go .found;
+      sorted = go .sorted;
+      near = λ h j ms ns k a b.
           let (is, r) = go .found .come i hi in
           let x = go .sorted i (i + 1) is ms (omega arith) h r a in
           let y = go .near j is ns k r b in
-          omega arith
-      ; probed = go .probed
-      ; wide = go .wide
-      ; few = go .few
-      ; done = omega arith
-      ; fits = fits
-      ; edges = λ k l h b. go .edges k l b (before k l h b)
-      }
+          omega arith;
+      probed = go .probed;
+      wide = go .wide;
+      few = go .few;
+      done = omega arith;
+      fits = fits;
+      edges = λ k l h b. go .edges k l b (before k l h b);
+    }
   where
     before : (k l : ℕ) → k < i + 1 → l < moves-of (length p) → k * moves-of (length p) + l < i * moves-of (length p) + moves-of (length p)
     before k l h b = let y : k ≤ i = omega arith in let a = mul-le-mul-right (moves-of (length p)) y in omega arith
@@ -100,8 +100,10 @@ nth-below : {A : Type 0} (xs : List A) (n : ℕ) (x : A) → nth xs n ≡ some x
 nth-below [] n x e = let z : _≡_ {A = ℕ} 0 1 = cc in absurd (omega arith)
 nth-below (y ∷ xs) zero x e = omega arith
 nth-below (y ∷ xs) (suc n) x e = let h = nth-below xs n x e in omega arith
+
 next-thread : (p : Prog) (s t : St) (a : ℕ) → move p s (next a) ≡ some t → a < length (s .threads)
 next-thread p s t a e = let (b, h, r) = opt-some (nth (s .threads) a) _ e in nth-below (s .threads) a b h
+
 out-thread : (p : Prog) (s t : St) (a : ℕ) → move p s (out a) ≡ some t → a < length (s .threads)
 out-thread p s t a e = let (b, h, r) = opt-some (nth (s .threads) a) _ e in nth-below (s .threads) a b h
 
@@ -149,9 +151,9 @@ module _ (p : Prog) (s : Shape) (limit : ℕ) (q t g : List ℕ) (n : ℕ) (b : 
 
   pub explored : Explored p q g n
   explored =
-      record
-        { found = b .found
-        ; edges = λ i m h k. b .edges i m h k
-        ; ahead = λ i m j h k e. ahead-by i m (getD g (i * moves-of (length p) + m) 0) j h (b .edges i m h k) e
-        ; all = λ ms u e. from-state ms 0 u (b .found .some-found) (ap (λ (z : St). moves p z ms) (b .found .first) ∙ e)
-        }
+      record {
+        found = b .found;
+        edges = λ i m h k. b .edges i m h k;
+        ahead = λ i m j h k e. ahead-by i m (getD g (i * moves-of (length p) + m) 0) j h (b .edges i m h k) e;
+        all = λ ms u e. from-state ms 0 u (b .found .some-found) (ap (λ (z : St). moves p z ms) (b .found .first) ∙ e);
+      }

@@ -22,6 +22,7 @@ pub record Entered (s : Shape) (limit : ℕ) (q t : List ℕ) (n : ℕ) (key q�
   pub few : n′ ≤ limit
   pub new : (i : ℕ) → i < n → n < n′ → rec q (s .width) i ≡ key → ⊥
   pub last : n < n′ → j ≡ n
+
 -- or it is new, and all is full
 pub record Refused (s : Shape) (limit : ℕ) (q : List ℕ) (n : ℕ) (key : List ℕ) : Type 0 where
   pub full : n ≡ limit

@@ -10,7 +10,14 @@ use lent::table::insert;
 
 // The number of the record that is the key, and how many records there are then; none where the key is new and all is
 // full.
-pub fn enter(shape: Shape, limit: usize, queue: &mut [u32], n: usize, table: &mut [u32], key: &[u32]) -> Option<(usize, usize)>
+pub fn enter(
+    shape: Shape,
+    limit: usize,
+    queue: &mut [u32],
+    n: usize,
+    table: &mut [u32],
+    key: &[u32],
+) -> Option<(usize, usize)>
     requires probed { ⌜ Probed shape (now queue) (now table) n ⌝ }
     requires room { ⌜ n < shape .room ⌝ }
     requires few { ⌜ n ≤ limit ⌝ }

@@ -37,7 +37,20 @@ pub fn expand(
 {
     let mut states = n;
     for m in 0..2 * p.count {
-        let Some(more) = visit(p, shape, limit, states, i, m, start, first + m, queue, table, edges, key) else {
+        let Some(more) = visit(
+            p,
+            shape,
+            limit,
+            states,
+            i,
+            m,
+            start,
+            first + m,
+            queue,
+            table,
+            edges,
+            key,
+        ) else {
             return None;
         };
         states = more;

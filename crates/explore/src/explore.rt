@@ -69,7 +69,19 @@ pub fn explore(
     let mut first = 0;
     'states: while i < n {
         shape = make_room(shape, limit, queue, n, table);
-        let Some(states) = expand(p, shape, limit, n, i, words, first, queue, table, edges, key) else {
+        let Some(states) = expand(
+            p,
+            shape,
+            limit,
+            n,
+            i,
+            words,
+            first,
+            queue,
+            table,
+            edges,
+            key,
+        ) else {
             return None;
         };
         n = states;

@@ -24,7 +24,11 @@ fn larger(shape: Shape, limit: usize, n: usize, places: usize) -> Shape
         };
     }
     let half = 1usize << shape.bits;
-    let room = if n + 8 < half && half < all { half } else { all };
+    let room = if n + 8 < half && half < all {
+        half
+    } else {
+        all
+    };
     Shape {
         width: shape.width,
         bits: shape.bits + 1,

@@ -40,6 +40,7 @@ module _ (p : Prog) (q g cost : List ℕ) (n : ℕ) (ex : Explored p q g n) (mar
       to : (b : Bool) → ltb 0 (getD cost i 0) ≡ b → _≡_ {A = ℕ} (pick b 1 0) 1 → 0 < getD cost i 0
       to true e f = ltb-true 0 (getD cost i 0) e
       to false e f = absurd (omega arith)
+
   bit-small : (i : ℕ) → once-bit cost i ≤ 1
   bit-small i = small (ltb 0 (getD cost i 0))
     where
@@ -52,17 +53,18 @@ module _ (p : Prog) (q g cost : List ℕ) (n : ℕ) (ex : Explored p q g n) (mar
       let (ms, r) = ex .found .come i h in
       let st = state (length p) q i in
       let bm = bit-marked i in
-      record
-        { comes-out = (ms, st, r, d, refl)
-        ; bit = bit-small i
-        ; at-once =
-          ( (λ b. let (ns, a) = marks i h .0 (bm .0 b) in (ns, st, a, d, refl))
-          , (λ o.
+      record {
+        comes-out = (ms, st, r, d, refl);
+        bit = bit-small i;
+        at-once = (
+          (λ b. let (ns, a) = marks i h .0 (bm .0 b) in (ns, st, a, d, refl)),
+          (λ o.
               let (ns, u, a, du, e) = o in
               let (us, ru) = all-moves p (begin p) u ns a in
               let same : u ≡ st = one-end p us ms u st ru r du d e in
-              bm .1 (marks i h .1 (ns, a ∙ ap some same))) )
-        }
+              bm .1 (marks i h .1 (ns, a ∙ ap some same))),
+        );
+      }
 
   pub all-right : (k i : ℕ) → i + k ≤ n → Every (Right p) (rows-from p q cost i k)
   all-right zero i h = tt
@@ -86,20 +88,20 @@ module _ (p : Prog) (q g cost : List ℕ) (n : ℕ) (ex : Explored p q g n) (mar
   some-row : (P : Row → Type 0) (j : ℕ) → done-at p q j ≡ true → P (row-of p q cost j) → (k i : ℕ) → i ≤ j → j < i + k → Some-row P (rows-from p q cost i k)
   some-row P j d h zero i l u = absurd (omega arith)
   some-row P j d h (suc k) i l u =
-      elim (cases-eq i j)
-        [ inl e ↦
-          subst (λ b. Some-row P (pick b (row-of p q cost i ∷ rows-from p q cost (suc i) k) (rows-from p q cost (suc i) k))) (sym (ap (done-at p q) e ∙ d)) (inl (subst (λ x. P (row-of p q cost x)) (sym e) h))
+      elim (cases-eq i j) [
+        | inl e ↦
+            subst (λ b. Some-row P (pick b (row-of p q cost i ∷ rows-from p q cost (suc i) k) (rows-from p q cost (suc i) k))) (sym (ap (done-at p q) e ∙ d)) (inl (subst (λ x. P (row-of p q cost x)) (sym e) h))
         | inr ne ↦ let rest = some-row P j d h k (suc i) (omega arith) (omega arith) in by-first (Some-row P) (done-at p q i) (row-of p q cost i) (rows-from p q cost (suc i) k) (λ z. inr rest) rest
-        ]
+      ]
 
   pub lists : Lists p (rows-from p q cost 0 n)
   lists =
-      record
-        { right = all-right n 0 (omega arith)
-        ; once-each = all-apart n 0 (omega arith)
-        ; all = λ o w.
+      record {
+        right = all-right n 0 (omega arith);
+        once-each = all-apart n 0 (omega arith);
+        all = λ o w.
             let (ms, s, r, d, e) = w in
             let (i, h, same) = ex .all ms s r in
             let done : done-at p q i ≡ true = ap (λ (z : St). all-done p (z .threads)) same ∙ d in
-            some-row (λ r. r .outcome ≡ o) i done (ap outcome same ∙ e) n 0 (omega arith) (omega arith)
-        }
+            some-row (λ r. r .outcome ≡ o) i done (ap outcome same ∙ e) n 0 (omega arith) (omega arith);
+      }

@@ -65,6 +65,7 @@ size-ts (t ∷ ts) h =
     let k = leb-true (length t) 8 l in
     let i = size-ts ts v in
     omega arith
+
 pub few-moves : (p : Program) (ms : List Move) (s : St) → moves (program p) (begin (program p)) ms ≡ some s → length ms ≤ 64
 few-moves p ms s e =
     let (one, r) = and-both (leb 1 (length (program p))) (leb (length (program p)) 4 && ok-ts (program p)) (T-true (ok (program p)) (program-ok p)) in
@@ -117,7 +118,7 @@ module _ (p : Program) (q g : List ℕ) (guards n : ℕ) (x : Explored (program 
       let v = walk-count ms bad (w .walk) in
       let h : AllHits t q g ms clause = subst (λ (z : ℕ). AllHits z q g ms clause) (sym (length-program p)) (subst (λ (z : List ℕ). AllHits (p .count) q g z clause) c a) in
       let is : clause ≡ mask (hits (program p) (begin (program p)) (map (move-of t) ms)) =
-          h (program p) n bad refl x (walk-fewer (guarded t q g guards) (kept g (moves-of t)) (moves-of t) (guarded-fewer t q g guards) ms 0 bad v) in
+      h (program p) n bad refl x (walk-fewer (guarded t q g guards) (kept g (moves-of t)) (moves-of t) (guarded-fewer t q g guards) ms 0 bad v) in
       let f = w .fits in
       record {
         few = omega arith;

@@ -187,14 +187,16 @@ ends p bits from h many f =
 -- a clause kept or left out
 pub kept-learnt : (p : Prog) (cs cs′ : List ℕ) (len c r : ℕ) (ms : List Move) → Kept-or-not cs len c cs′ r → len ≤ length cs → Learnt-masks p cs len → Shows p ms → c ≡ mask (hits p (begin p) ms) → (r ≤ length cs′) × Learnt-masks p cs′ r
 kept-learnt p cs cs′ len c r ms k h l s e =
-    elim k
-      [ inl a ↦
-        let b : r ≤ length cs = let z = a .0 in omega arith in
-        ( subst (λ (x : List ℕ). r ≤ length x) (sym (a .1)) b
-        , subst (λ (x : List ℕ). Learnt-masks p x r) (sym (a .1)) (subst (λ (x : ℕ). Learnt-masks p cs x) (sym (a .0)) l) )
+    elim k [
+      | inl a ↦
+          let b : r ≤ length cs = let z = a .0 in omega arith in (
+            subst (λ (x : List ℕ). r ≤ length x) (sym (a .1)) b,
+            subst (λ (x : List ℕ). Learnt-masks p x r) (sym (a .1)) (subst (λ (x : ℕ). Learnt-masks p cs x) (sym (a .0)) l),
+          )
       | inr a ↦
-        let n = length-set cs len c in
-        let b : r ≤ length (set cs len c) = let z = a .1 in let y = a .0 in omega arith in
-        ( subst (λ (x : List ℕ). r ≤ length x) (sym (a .2)) b
-        , subst (λ (x : List ℕ). Learnt-masks p x r) (sym (a .2)) (subst (λ (x : ℕ). Learnt-masks p (set cs len c) x) (sym (a .1)) (learnt-more p cs len c ms (a .0) l s e)) )
-      ]
+          let n = length-set cs len c in
+          let b : r ≤ length (set cs len c) = let z = a .1 in let y = a .0 in omega arith in (
+            subst (λ (x : List ℕ). r ≤ length x) (sym (a .2)) b,
+            subst (λ (x : List ℕ). Learnt-masks p x r) (sym (a .2)) (subst (λ (x : ℕ). Learnt-masks p (set cs len c) x) (sym (a .1)) (learnt-more p cs len c ms (a .0) l s e)),
+          )
+    ]

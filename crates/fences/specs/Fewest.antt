@@ -39,6 +39,7 @@ Kept-or-not cs len c cs′ r = ((r ≡ len) × (cs′ ≡ cs)) ⊎ ((len < lengt
 abbrev pub Round : Prog → ℕ → Option ℕ → Type 0
 Round p bits (Some x) = Fewest p (spots x)
 Round p bits None = Earlier-fail p (bits + 1) (2 ^ 32 - 1)
+
 pub record Gone-through (p : Prog) (bits : ℕ) (cs : List ℕ) (found : Option ℕ) (kept : ℕ) : Type 0 where
   pub round : Round p bits found
   pub few : kept ≤ length cs

@@ -126,7 +126,20 @@ pub fn fewest<'x>(
     let among = every_spot(p);
     let mut known = 0;
     'lengths: for bits in 0..33 {
-        let (found, more) = lists_of(p, among, bits, n, queue, edges, once, cost, from, path, clauses, known);
+        let (found, more) = lists_of(
+            p,
+            among,
+            bits,
+            n,
+            queue,
+            edges,
+            once,
+            cost,
+            from,
+            path,
+            clauses,
+            known,
+        );
         if let Some(x) = found {
             return x;
         }

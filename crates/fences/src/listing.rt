@@ -54,7 +54,15 @@ fn count_finished(p: &Program, queue: &[u32], n: usize) -> usize
 }
 
 // Writes the row of state `i`, if it is finished, from `at` on, and says where it ends.
-fn write_row(p: &Program, queue: &[u32], cost: &[u32], n: usize, i: usize, out: &mut [u32], at: usize) -> usize
+fn write_row(
+    p: &Program,
+    queue: &[u32],
+    cost: &[u32],
+    n: usize,
+    i: usize,
+    out: &mut [u32],
+    at: usize,
+) -> usize
     requires explored { ⌜ ((g : List ℕ) × Explored (program (now p)) (now queue) g n) ⌝ }
     requires held { ⌜ n * width (length (program (now p))) ≤ length (now queue) ⌝ }
     requires below { ⌜ i < n ⌝ }
@@ -87,7 +95,14 @@ fn write_rows(p: &Program, queue: &[u32], cost: &[u32], n: usize, out: &mut [u32
 }
 
 // The outcomes of a program whose states are found. What the table took serves for the marks.
-fn list_found(p: &Program, n: usize, queue: &[u32], edges: &[u32], table: &mut [u32], out: &mut [u32]) -> Listed
+fn list_found(
+    p: &Program,
+    n: usize,
+    queue: &[u32],
+    edges: &[u32],
+    table: &mut [u32],
+    out: &mut [u32],
+) -> Listed
     requires explored { ⌜ Explored (program (now p)) (now queue) (now edges) n ⌝ }
     requires held { ⌜ n * width (length (program (now p))) ≤ length (now queue) ⌝ }
     requires kept { ⌜ n * moves-of (length (program (now p))) ≤ length (now edges) ⌝ }

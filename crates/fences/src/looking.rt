@@ -29,7 +29,14 @@ pub enum Looked {
 
 // The answer for a program whose states are found. What the table took serves for the marks, the searches and the
 // clauses.
-fn look_found(p: &Program, n: usize, queue: &[u32], edges: &[u32], table: &mut [u32], out: &mut [u32]) -> Looked
+fn look_found(
+    p: &Program,
+    n: usize,
+    queue: &[u32],
+    edges: &[u32],
+    table: &mut [u32],
+    out: &mut [u32],
+) -> Looked
     requires explored { ⌜ Explored (program (now p)) (now queue) (now edges) n ⌝ }
     requires held { ⌜ n * width (length (program (now p))) ≤ length (now queue) ⌝ }
     requires kept { ⌜ n * moves-of (length (program (now p))) ≤ length (now edges) ⌝ }

@@ -32,7 +32,15 @@ fn as_good(cost: &[u32], best: Option<usize>, i: usize) -> bool
 }
 
 // The better of the best so far and state `i`, if that is a bad one. The dear test comes last.
-fn choose(p: &Program, n: usize, queue: &[u32], once: &[u32], cost: &[u32], i: usize, best: Option<usize>) -> Option<usize>
+fn choose(
+    p: &Program,
+    n: usize,
+    queue: &[u32],
+    once: &[u32],
+    cost: &[u32],
+    i: usize,
+    best: Option<usize>,
+) -> Option<usize>
     requires explored { ⌜ ((g : List ℕ) × Explored (program (now p)) (now queue) g n) ⌝ }
     requires held { ⌜ n * width (length (program (now p))) ≤ length (now queue) ⌝ }
     requires in_once { ⌜ n ≤ length (now once) ⌝ }
@@ -72,7 +80,16 @@ pub fn find_bad(p: &Program, n: usize, queue: &[u32], once: &[u32], cost: &[u32]
 }
 
 // Searches under the guards: a bad state that is come to, or none.
-pub fn look_at<'x>(p: &Program, guards: u32, n: usize, queue: &'x [u32], edges: &'x [u32], once: &[u32], cost: &mut [u32], from: &mut [u32]) -> Option<usize>
+pub fn look_at<'x>(
+    p: &Program,
+    guards: u32,
+    n: usize,
+    queue: &'x [u32],
+    edges: &'x [u32],
+    once: &[u32],
+    cost: &mut [u32],
+    from: &mut [u32],
+) -> Option<usize>
     requires explored { ⌜ Explored (program (now p)) (now queue) (now edges) n ⌝ }
     requires marks { ⌜ Marks-once (program (now p)) (now queue) n (now once) ⌝ }
     requires held { ⌜ n * width (length (program (now p))) ≤ length (now queue) ⌝ }
@@ -93,7 +110,16 @@ pub fn look_at<'x>(p: &Program, guards: u32, n: usize, queue: &'x [u32], edges: 
 }
 
 // Reads the run to a bad state back into `path`: how many moves it has, and what it passes.
-pub fn learn<'x>(p: &Program, guards: u32, n: usize, queue: &'x [u32], edges: &'x [u32], from: &[u32], bad: usize, path: &mut [u32]) -> (usize, u32)
+pub fn learn<'x>(
+    p: &Program,
+    guards: u32,
+    n: usize,
+    queue: &'x [u32],
+    edges: &'x [u32],
+    from: &[u32],
+    bad: usize,
+    path: &mut [u32],
+) -> (usize, u32)
     requires explored { ⌜ Explored (program (now p)) (now queue) (now edges) n ⌝ }
     requires kept { ⌜ n * moves-of (length (program (now p))) ≤ length (now edges) ⌝ }
     requires in_from { ⌜ n ≤ length (now from) ⌝ }

@@ -25,6 +25,7 @@ Did m a i None = does m a i ≡ none
 -- the words hold a state of the program p
 abbrev pub Holds : Prog → List ℕ → Type 0
 Holds p ws = (s : St) × Packs ws s × (length (s .threads) ≡ length p)
+
 -- after a step from the state in ws: the state in ws′, where it can be made; else that it can't
 abbrev pub Stepped : (St → M.Option St) → List ℕ → Bool → List ℕ → Type 0
 Stepped step ws true ws′ = (s : St) → Packs ws s → (t : St) × (step s ≡ some t) × Packs ws′ t × (length (t .threads) ≡ length (s .threads))

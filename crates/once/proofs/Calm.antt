@@ -48,19 +48,21 @@ module _ (p : Prog) (s mid : St) (n : ℕ) (calm : Calm s) (x : Next p s n mid) 
       let line : x .now .waits ≡ w ∷ [] = ap (λ (z : At). z .waits) (sym (some-is did)) ∙ ap (λ (z : List Wait). z ++ (w ∷ [])) was-empty in
       let o : Out mid n u = record { was = x .now; stands = stands-then; w = w; ws = []; line = line; gives = refl } in
       let same : put (s .threads) n (rest-of (x .now) []) ≡ u .threads = sym (ap (λ (z : St). put (z .threads) n (rest-of (x .now) [])) (x .gives) ∙ put-put (s .threads) n (x .now) (rest-of (x .now) [])) in
-      inl
-        ( u
-        , of-out p mid n u o
-        , of-once p s n u (record { mid = mid; first = x; then = inl (ap is-store q, o) })
-        , subst Calm-ts same (calm-put (s .threads) n (rest-of (x .now) []) calm refl) )
+      inl (
+        u,
+        of-out p mid n u o,
+        of-once p s n u (record { mid = mid; first = x; then = inl (ap is-store q, o) }),
+        subst Calm-ts same (calm-put (s .threads) n (rest-of (x .now) []) calm refl),
+      )
 
   goes-not : is-store (x .i) ≡ false → Goes-on p s n mid
   goes-not q =
       let row : x .now .waits ≡ [] = does-waits (s .mem) (x .was) (x .now) (x .i) q (x .did) ∙ was-empty in
-      inr
-        ( opt-is (nth (mid .threads) n) none _ stands-then ∙ ap (flushed mid n (x .now)) row
-        , of-once p s n mid (record { mid = mid; first = x; then = inr (q, refl) })
-        , subst Calm (sym (x .gives)) (calm-put (s .threads) n (x .now) calm row) )
+      inr (
+        opt-is (nth (mid .threads) n) none _ stands-then ∙ ap (flushed mid n (x .now)) row,
+        of-once p s n mid (record { mid = mid; first = x; then = inr (q, refl) }),
+        subst Calm (sym (x .gives)) (calm-put (s .threads) n (x .now) calm row),
+      )
 
   goes-on : Goes-on p s n mid
   goes-on = elim (store-or (x .i)) [ inl st ↦ goes-out (st .0) (st .1) (st .2) | inr q ↦ goes-not q ]

@@ -52,10 +52,10 @@ module _ (p : Prog) (ws : List ℕ) (long : length ws ≡ width (length p)) (n :
 
   pub done-more : Word-done ws n c → Done-before p ws n → Done-before p ws (n + 1)
   done-more d before s h k b l e =
-      elim (last-or k n l)
-        [ inl less ↦ before s h k b less e
+      elim (last-or k n l) [
+        | inl less ↦ before s h k b less e
         | inr same ↦ subst (λ (j : ℕ). (a : At) × (nth (s .threads) j ≡ some a) × Ended b a) (sym same) (subst (λ (t : Thread). (a : At) × (nth (s .threads) n ≡ some a) × Ended t a) (some-is (sym code ∙ sym (ap (nth p) same) ∙ e)) (ended-by d s h))
-        ]
+      ]
 
   pub not-done : (Word-done ws n c → ⊥) → (s : St) → Packs ws s → false ≡ all-done p (s .threads)
   not-done never s h = go (all-done p (s .threads)) refl

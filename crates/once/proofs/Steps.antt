@@ -108,10 +108,11 @@ module _ (p : Prog) (q g : List ℕ) (n : ℕ) (x : Explored p q g n) where
   pub marks-once : (cost from : List ℕ) → Searched step (length p) n cost from → Marks-once p q n cost
   marks-once cost from s i h =
       let f = x .found in
-      let c : Calm (st 0) = subst Calm (sym (f .first)) (calm-begin p) in
-      ( (λ mk.
-          let (ms, w) = s .reached i h mk in
-          (ms, ap (λ (z : St). all-at-once p z ms) (sym (f .first)) ∙ walk-run ms 0 i (f .some-found) c w))
-      , (λ r.
-          let (j, hj, ej, w) = run-walk (r .0) 0 (st i) (f .some-found) c (ap (λ (z : St). all-at-once p z (r .0)) (f .first) ∙ r .1) in
-          subst (Marked cost) (f .apart j i hj h ej) (s .all j (r .0) w .1)) )
+      let c : Calm (st 0) = subst Calm (sym (f .first)) (calm-begin p) in (
+        (λ mk.
+            let (ms, w) = s .reached i h mk in
+            (ms, ap (λ (z : St). all-at-once p z ms) (sym (f .first)) ∙ walk-run ms 0 i (f .some-found) c w)),
+        (λ r.
+            let (j, hj, ej, w) = run-walk (r .0) 0 (st i) (f .some-found) c (ap (λ (z : St). all-at-once p z (r .0)) (f .first) ∙ r .1) in
+            subst (Marked cost) (f .apart j i hj h ej) (s .all j (r .0) w .1)),
+      )

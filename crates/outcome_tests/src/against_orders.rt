@@ -18,7 +18,14 @@ const LIMITS: Limits = Limits {
 };
 
 // Each of the first `count` rows is one of the outcomes, and its bit says whether it is one at once.
-fn same_rows(heap: Global, rows: &[u32], width: usize, count: usize, waiting: &Outcomes, once: &Outcomes) -> Result<(), Fail> {
+fn same_rows(
+    heap: Global,
+    rows: &[u32],
+    width: usize,
+    count: usize,
+    waiting: &Outcomes,
+    once: &Outcomes,
+) -> Result<(), Fail> {
     for k in 0..count {
         let at = k.saturating_mul(width);
         let end = at.saturating_add(width);
@@ -42,7 +49,14 @@ fn agree(heap: Global, words: &[u32]) -> Result<(), Fail> {
         return Err(Fail::new("no outcomes"));
     };
     check_eq(count, waiting.len())?;
-    same_rows(heap, got.rows.as_slice(), threads.len().saturating_mul(4).saturating_add(9), count, &waiting, &once)
+    same_rows(
+        heap,
+        got.rows.as_slice(),
+        threads.len().saturating_mul(4).saturating_add(9),
+        count,
+        &waiting,
+        &once,
+    )
 }
 
 #[test]

@@ -16,7 +16,14 @@ fn has(heap: Global, text: &str, waiting: usize, once: usize) -> Result<(), Fail
     };
     let threads = words.as_slice().first().copied().unwrap_or(0) as usize;
     check_eq(count, waiting)?;
-    check_eq(at_once(got.rows.as_slice(), threads.saturating_mul(4).saturating_add(9), count), once)
+    check_eq(
+        at_once(
+            got.rows.as_slice(),
+            threads.saturating_mul(4).saturating_add(9),
+            count,
+        ),
+        once,
+    )
 }
 
 #[test]
@@ -48,9 +55,15 @@ fn answers_at_the_edges(rt: LibcRuntime) -> Result<(), Fail> {
     // one word of out short, and just enough: 4 rows of 17 words
     let mut work = vec![in heap; 0u32; 100_000]?;
     let mut out = [5u32; 68];
-    check(matches!(outcomes(words.as_slice(), 100, &mut out[0..67], work.as_mut_slice()), Listed::OutFull))?;
+    check(matches!(
+        outcomes(words.as_slice(), 100, &mut out[0..67], work.as_mut_slice()),
+        Listed::OutFull
+    ))?;
     check(out == [5u32; 68])?;
-    check(matches!(outcomes(words.as_slice(), 100, &mut out[0..68], work.as_mut_slice()), Listed::Outcomes(4, _)))
+    check(matches!(
+        outcomes(words.as_slice(), 100, &mut out[0..68], work.as_mut_slice()),
+        Listed::Outcomes(4, _)
+    ))
 }
 
 // Four threads that each store register 0 to places 0 to 7 come to 45 to the fourth states.
@@ -65,5 +78,8 @@ fn too_many_states_are_crowded(rt: LibcRuntime) -> Result<(), Fail> {
             words.extend_from_slice(&[3, place, 0, 0])?;
         }
     }
-    check(matches!(ask(heap, words.as_slice(), 2000, 65_536 + 128 * 2001)?.listed, Listed::Crowded))
+    check(matches!(
+        ask(heap, words.as_slice(), 2000, 65_536 + 128 * 2001)?.listed,
+        Listed::Crowded
+    ))
 }

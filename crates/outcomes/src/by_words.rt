@@ -9,7 +9,12 @@ use cli::troubles::TroubleFromWrite;
 use fences::listing::Listed;
 
 // Prints the outcomes in `lent`, a line each.
-fn print_outcomes(rt: &LibcRuntime, lent: &Lent, threads: u32, count: usize) -> Result<(), Trouble> {
+fn print_outcomes(
+    rt: &LibcRuntime,
+    lent: &Lent,
+    threads: u32,
+    count: usize,
+) -> Result<(), Trouble> {
     let heap = rt.alloc();
     for row in rows::sorted(heap, lent.out.as_slice(), threads, count)?.as_slice() {
         let how = if row.at_once { "both" } else { "waiting" };

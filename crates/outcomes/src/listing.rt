@@ -27,6 +27,11 @@ impl Lent {
 
     // Finds all outcomes of the program that the words are, and leaves them in `out`.
     pub fn outcomes(&mut self, words: &[u32]) -> Listed {
-        listing::outcomes(words, STATES, self.out.as_mut_slice(), self.work.as_mut_slice())
+        listing::outcomes(
+            words,
+            STATES,
+            self.out.as_mut_slice(),
+            self.work.as_mut_slice(),
+        )
     }
 }

@@ -13,8 +13,14 @@ pub struct Row<'a> {
 
 fn row_of(words: &[u32]) -> Row<'_> {
     match words {
-        [] => Row { values: &[], at_once: false },
-        [bit, values @ ..] => Row { values, at_once: *bit == 1 },
+        [] => Row {
+            values: &[],
+            at_once: false,
+        },
+        [bit, values @ ..] => Row {
+            values,
+            at_once: *bit == 1,
+        },
     }
 }
 
@@ -26,7 +32,12 @@ fn width(threads: u32) -> usize
 }
 
 // The first `count` outcomes that stand in `out`, sorted.
-pub fn sorted(heap: Global, out: &[u32], threads: u32, count: usize) -> Result<Vec<Row<'_>>, AllocError> {
+pub fn sorted(
+    heap: Global,
+    out: &[u32],
+    threads: u32,
+    count: usize,
+) -> Result<Vec<Row<'_>>, AllocError> {
     let mut rows = Vec::with_capacity(heap, count)?;
     for words in out.chunks_exact(width(threads)).take(count) {
         rows.push(row_of(words))?;

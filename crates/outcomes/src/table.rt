@@ -37,7 +37,11 @@ fn heading(heap: Global, columns: &[Shown]) -> Result<String, AllocError> {
 fn line(heap: Global, columns: &[Shown], row: &Row<'_>) -> Result<String, AllocError> {
     let mut line = String::new(heap);
     for column in columns {
-        let value = row.values.get(column.at).copied().unwrap_or(0).to_string(heap)?;
+        let value = row.values
+            .get(column.at)
+            .copied()
+            .unwrap_or(0)
+            .to_string(heap)?;
         push_cell(&mut line, value.as_str(), column.title.as_str())?;
     }
     line.push_str(if row.at_once { "" } else { "  *" })?;
@@ -56,10 +60,18 @@ fn summary(heap: Global, all: usize, waiting: usize, states: usize) -> Result<St
     let at_once = all.saturating_sub(waiting);
     let all = counted(heap, all, "outcome")?;
     let states = counted(heap, states, "state")?;
-    format!(heap, "{all}: {at_once} at once, {waiting} only with waiting stores (*); {states}")
+    format!(
+        heap,
+        "{all}: {at_once} at once, {waiting} only with waiting stores (*); {states}"
+    )
 }
 
-fn print_table(rt: &LibcRuntime, source: &Source, rows: &[Row<'_>], states: usize) -> Result<(), Trouble> {
+fn print_table(
+    rt: &LibcRuntime,
+    source: &Source,
+    rows: &[Row<'_>],
+    states: usize,
+) -> Result<(), Trouble> {
     let heap = rt.alloc();
     let columns = shown::of_program(heap, source)?;
     rt.println(heading(heap, columns.as_slice())?)?;

@@ -50,7 +50,8 @@ the-instruction p n k d i h l =
     let t = getD (p .threads) n d in
     let e = t .eight in
     let f = t .few in
-    let at : nth (thread t) k ≡ some (instruction (getD (t .code) k i)) = nth-front instruction (t .code) (t .len) k i l (omega arith) in
-    ( ap (λ (o : Option Thread). opt o none (λ (t : Thread). nth t k)) (thread-at p n d h) ∙ at
-    , ok-nth (thread t) k (instruction (getD (t .code) k i)) (t .fine) at
-    , omega arith )
+    let at : nth (thread t) k ≡ some (instruction (getD (t .code) k i)) = nth-front instruction (t .code) (t .len) k i l (omega arith) in (
+      ap (λ (o : Option Thread). opt o none (λ (t : Thread). nth t k)) (thread-at p n d h) ∙ at,
+      ok-nth (thread t) k (instruction (getD (t .code) k i)) (t .fine) at,
+      omega arith,
+    )

@@ -21,18 +21,18 @@ visit-requires c κs =
     let w = c .pre .words in
     let n = c .pre .ends in
     let key = c .pre .key in
-    record
-      { going = c .loop-m .inv .0
-      ; key = omega arith
-      ; room = omega arith
-      ; told = c .pre .told
-      ; starts = c .pre .starts
-      ; words = omega arith
-      ; stands = ap (λ (z : ℕ). z + c .loop-m .m) (c .pre .stands)
-      ; word = omega arith
-      ; ends = omega arith
-      ; below = omega arith
-      }
+    record {
+      going = c .loop-m .inv .0;
+      key = omega arith;
+      room = omega arith;
+      told = c .pre .told;
+      starts = c .pre .starts;
+      words = omega arith;
+      stands = ap (λ (z : ℕ). z + c .loop-m .m) (c .pre .stands);
+      word = omega arith;
+      ends = omega arith;
+      below = omega arith;
+    }
 
 pub returns : need.returns
 returns c =

@@ -43,17 +43,17 @@ expand-requires c κs =
     let fi = c .states .inv .2 in
     let key = c .pre .key in
     let q0 : length (c .states .queue) ≡ length (c .args .queue .now) = (let a = c .start-shape .kept .queue in omega arith) in
-    record
-      { going = turn p (c .states .shape) (c .make-room-shape .result) (c .args .limit) (c .states .queue) (c .states .table) (c .make-room-shape .last .table) (c .states .edges) (c .states .n) i b h (r .width) (r .probed)
-      ; key = omega arith
-      ; room = r .room
-      ; told = c .pre .told
-      ; starts = wi ∙ ap (λ (z : ℕ). i * z) (sym w)
-      ; words = omega arith
-      ; stands = fi
-      ; edges-end = omega arith
-      ; ends = subst (λ (z : ℕ). c .args .limit * z ≤ length (c .states .queue)) (sym w) (subst (λ (z : ℕ). c .args .limit * width (length p) ≤ z) (sym q0) (c .pre .ends))
-      }
+    record {
+      going = turn p (c .states .shape) (c .make-room-shape .result) (c .args .limit) (c .states .queue) (c .states .table) (c .make-room-shape .last .table) (c .states .edges) (c .states .n) i b h (r .width) (r .probed);
+      key = omega arith;
+      room = r .room;
+      told = c .pre .told;
+      starts = wi ∙ ap (λ (z : ℕ). i * z) (sym w);
+      words = omega arith;
+      stands = fi;
+      edges-end = omega arith;
+      ends = subst (λ (z : ℕ). c .args .limit * z ≤ length (c .states .queue)) (sym w) (subst (λ (z : ℕ). c .args .limit * width (length p) ≤ z) (sym q0) (c .pre .ends));
+    }
 
 pub add-words : need.add-words
 add-words c =
@@ -75,16 +75,18 @@ states-again c =
     let fi = c .states .inv .2 in
     let l = length-program (c .args .p .now) in
     let kt = c .expand .kept .table in
-    let f = r .fits in
-    ( turned p (c .make-room-shape .result) (c .args .limit) (c .expand .last .queue) (c .expand .last .table) (c .expand .last .edges) (c .in-Some .states) (c .states .i) (c .in-Some .ensures tt) (omega arith)
-    , (let m = more-words (c .states .i) (width (length p)) in omega arith)
-    , (let m = more-words (c .states .i) (moves-of (length p)) in omega arith) )
+    let f = r .fits in (
+      turned p (c .make-room-shape .result) (c .args .limit) (c .expand .last .queue) (c .expand .last .table) (c .expand .last .edges) (c .in-Some .states) (c .states .i) (c .in-Some .ensures tt) (omega arith),
+      (let m = more-words (c .states .i) (width (length p)) in omega arith),
+      (let m = more-words (c .states .i) (moves-of (length p)) in omega arith),
+    )
 
 pub returns : need.returns
 returns c =
     let p = program (c .args .p .now) in
     let b = c .states .inv .0 in
     let d = b .done in
-    let e : c .states .i ≡ c .states .n = omega arith in
-    ( explored p (c .states .shape) (c .args .limit) (c .states .queue) (c .states .table) (c .states .edges) (c .states .n) (subst (λ (z : ℕ). Between p (c .states .shape) (c .args .limit) (c .states .queue) (c .states .table) (c .states .edges) (c .states .n) z) e b)
-    , b .few )
+    let e : c .states .i ≡ c .states .n = omega arith in (
+      explored p (c .states .shape) (c .args .limit) (c .states .queue) (c .states .table) (c .states .edges) (c .states .n) (subst (λ (z : ℕ). Between p (c .states .shape) (c .args .limit) (c .states .queue) (c .states .table) (c .states .edges) (c .states .n) z) e b),
+      b .few,
+    )

@@ -24,17 +24,19 @@ loop-i-again c =
     let b = c .loop-i .inv .0 in
     let packs = record-packs p q g _ (c .args .n) i ex (c .loop-i-test .taken) (c .record .ensures) in
     let st = state (length (program p)) q i in
-    elim (c .if-finished .came)
-      [ then-finished w ↦
-        let e = w .count-is in
-        ( omega arith
-        , λ cost.
-            let m = count-more (program p) q cost i (c .args .n) (c .loop-i .count) (length (rows-from (program p) q cost 0 (c .args .n))) (c .loop-i-test .taken) (sym (w .if-finished .ensures tt st packs)) (c .loop-i .inv .1 cost) in
-            omega arith )
+    elim (c .if-finished .came) [
+      | then-finished w ↦
+          let e = w .count-is in (
+            omega arith,
+            λ cost.
+                let m = count-more (program p) q cost i (c .args .n) (c .loop-i .count) (length (rows-from (program p) q cost 0 (c .args .n))) (c .loop-i-test .taken) (sym (w .if-finished .ensures tt st packs)) (c .loop-i .inv .1 cost) in
+                omega arith,
+          )
       | else-finished w ↦
-        let e = w .count-is in
-        ( omega arith
-        , λ cost.
-            let m = count-same (program p) q cost i (c .args .n) (c .loop-i .count) (length (rows-from (program p) q cost 0 (c .args .n))) (c .loop-i-test .taken) (sym (w .if-finished .ensures tt st packs)) (c .loop-i .inv .1 cost) in
-            omega arith )
-      ]
+          let e = w .count-is in (
+            omega arith,
+            λ cost.
+                let m = count-same (program p) q cost i (c .args .n) (c .loop-i .count) (length (rows-from (program p) q cost 0 (c .args .n))) (c .loop-i-test .taken) (sym (w .if-finished .ensures tt st packs)) (c .loop-i .inv .1 cost) in
+                omega arith,
+          )
+    ]

@@ -23,11 +23,12 @@ pub returns-then-count-out : need.returns-then-count-out
 returns-then-count-out c =
     let p = c .args .p .now in
     let q = c .args .queue .now in
-    let cost = c .mark-at-once .last .cost in
-    ( rows-from (program p) q cost 0 (c .args .n)
-    , lists (program p) q (c .args .edges .now) cost (c .args .n) (c .pre .explored) (c .mark-at-once .ensures .marks q (c .pre .explored))
-    , rows-too-long p q (c .args .edges .now) cost (c .args .n) (c .count-finished-count .result) (length (c .args .out .now)) (c .pre .explored) (c .count-finished-count .ensures .count cost) (c .if-count-out .taken)
-    , refl )
+    let cost = c .mark-at-once .last .cost in (
+      rows-from (program p) q cost 0 (c .args .n),
+      lists (program p) q (c .args .edges .now) cost (c .args .n) (c .pre .explored) (c .mark-at-once .ensures .marks q (c .pre .explored)),
+      rows-too-long p q (c .args .edges .now) cost (c .args .n) (c .count-finished-count .result) (length (c .args .out .now)) (c .pre .explored) (c .count-finished-count .ensures .count cost) (c .if-count-out .taken),
+      refl,
+    )
 
 pub write-rows-requires : need.write-rows-requires
 write-rows-requires c κs =
@@ -36,21 +37,22 @@ write-rows-requires c κs =
     let cost = c .mark-at-once .last .cost in
     let f = c .split-at-mut-cost .ensures .front-len in
     let k = c .mark-at-once .kept .cost in
-    record
-      { explored = (c .args .edges .now, c .pre .explored)
-      ; held = c .pre .held
-      ; marked = omega arith
-      ; room = rows-fit p q (c .args .edges .now) cost (c .args .n) (c .count-finished-count .result) (length (c .args .out .now)) (c .pre .explored) (c .count-finished-count .ensures .count cost) (c .if-count-out .left)
-      }
+    record {
+      explored = (c .args .edges .now, c .pre .explored);
+      held = c .pre .held;
+      marked = omega arith;
+      room = rows-fit p q (c .args .edges .now) cost (c .args .n) (c .count-finished-count .result) (length (c .args .out .now)) (c .pre .explored) (c .count-finished-count .ensures .count cost) (c .if-count-out .left);
+    }
 
 pub returns : need.returns
 returns c =
     let p = c .args .p .now in
     let q = c .args .queue .now in
-    let cost = c .mark-at-once .last .cost in
-    ( rows-from (program p) q cost 0 (c .args .n)
-    , lists (program p) q (c .args .edges .now) cost (c .args .n) (c .pre .explored) (c .mark-at-once .ensures .marks q (c .pre .explored))
-    , all-states (program p) q (c .args .edges .now) (c .args .n) (c .pre .explored)
-    , c .count-finished-count .ensures .count cost
-    , c .write-rows .ensures .written
-    , c .write-rows .ensures .behind )
+    let cost = c .mark-at-once .last .cost in (
+      rows-from (program p) q cost 0 (c .args .n),
+      lists (program p) q (c .args .edges .now) cost (c .args .n) (c .pre .explored) (c .mark-at-once .ensures .marks q (c .pre .explored)),
+      all-states (program p) q (c .args .edges .now) (c .args .n) (c .pre .explored),
+      c .count-finished-count .ensures .count cost,
+      c .write-rows .ensures .written,
+      c .write-rows .ensures .behind,
+    )

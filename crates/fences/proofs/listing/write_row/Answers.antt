@@ -50,8 +50,8 @@ returns c =
     let d = sym (c .if-not-finished .ensures tt st packs) in
     let m = length-found p q g (c .args .n) (c .args .i) ex (c .pre .below) in
     let once : c .if-cost-i-gt0 .once ≡ once-bit (c .args .cost .now) (c .args .i) =
-        elim (c .if-cost-i-gt0 .came)
-          [ then-cost-i-gt0 w ↦ w .once-is ∙ sym (ap (λ (b : Bool). pick {A = ℕ} b 1 0) (lt-ltb 0 _ (w .if-cost-i-gt0 .taken)))
-          | else-cost-i-gt0 w ↦ w .once-is ∙ sym (ap (λ (b : Bool). pick {A = ℕ} b 1 0) (le-ltb 0 _ (w .if-cost-i-gt0 .left)))
-          ] in
+    elim (c .if-cost-i-gt0 .came) [
+      | then-cost-i-gt0 w ↦ w .once-is ∙ sym (ap (λ (b : Bool). pick {A = ℕ} b 1 0) (lt-ltb 0 _ (w .if-cost-i-gt0 .taken)))
+      | else-cost-i-gt0 w ↦ w .once-is ∙ sym (ap (λ (b : Bool). pick {A = ℕ} b 1 0) (le-ltb 0 _ (w .if-cost-i-gt0 .left)))
+    ] in
     wrote-one (program p) q (c .args .cost .now) (c .args .out .now) (c .write-outcome .last .out) (c .args .i) (c .args .at) (c .args .at + (9 + 4 * p .count)) (c .if-cost-i-gt0 .once) d once (omega arith) (c .write-outcome .ensures .written st packs) (c .write-outcome .ensures .behind)

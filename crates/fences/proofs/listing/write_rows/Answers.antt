@@ -33,7 +33,8 @@ loop-i-again c =
     let w = c .write-row-at .ensures in
     let e = ap length (text-step p q cost i n h) ∙ length-append (text (one-row p q cost i)) (text (rows-from p q cost (i + 1) (n - (i + 1)))) in
     let l = c .loop-i .inv .1 in
-    let long = w .long in
-    ( wrote-more p q cost (c .args .out .now) (c .loop-i .out) (c .write-row-at .last .out) i n (c .loop-i .at) (c .write-row-at .result) h (c .loop-i .inv .0) w
-    , omega arith
-    , behind-more (c .args .out .now) (c .loop-i .out) (c .write-row-at .last .out) (text (one-row p q cost i)) (c .loop-i .at) (c .write-row-at .result) (length (text (rows-from p q cost 0 n))) w (omega arith) (c .loop-i .inv .2) )
+    let long = w .long in (
+      wrote-more p q cost (c .args .out .now) (c .loop-i .out) (c .write-row-at .last .out) i n (c .loop-i .at) (c .write-row-at .result) h (c .loop-i .inv .0) w,
+      omega arith,
+      behind-more (c .args .out .now) (c .loop-i .out) (c .write-row-at .last .out) (text (one-row p q cost i)) (c .loop-i .at) (c .write-row-at .result) (length (text (rows-from p q cost 0 n))) w (omega arith) (c .loop-i .inv .2),
+    )

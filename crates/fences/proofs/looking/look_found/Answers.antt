@@ -40,11 +40,11 @@ write-moves-requires c κs =
     let n = cut-length m (c .learn-moves .last .path) (omega arith) in
     let e = length-program p in
     let o = c .if-out-lt256 .left in
-    record
-      { few = p .few
-      ; below = cut-below _ _ m (c .learn-moves .last .path) (ap (λ (z : ℕ). 2 * z) e) (l .numbers)
-      ; room = omega arith
-      }
+    record {
+      few = p .few;
+      below = cut-below _ _ m (c .learn-moves .last .path) (ap (λ (z : ℕ). 2 * z) e) (l .numbers);
+      room = omega arith;
+    }
 
 pub returns : need.returns
 returns c =
@@ -57,12 +57,13 @@ returns c =
     let path = c .learn-moves .last .path in
     let h : m ≤ length path = let few = l .few in omega arith in
     let ms = map (move-of (length pr)) (take m path) in
-    let f = c .write-fences-count .ensures in
-    ( ms
-    , spots (c .fewest-fences .result)
-    , shows pr (c .args .queue .now) (c .in-Some .bad) ms (b .done) (b .apart) (l .run)
-    , c .fewest-fences .ensures
-    , run-length (length pr) m path h
-    , f .count
-    , all-written (p .count) (length pr) m (c .write-fences-count .result) path (c .args .out .now) (c .write-moves .last .out) (c .write-fences-count .last .out) (text-ss (spots (c .fewest-fences .result))) (sym (length-program p)) h (c .write-moves .ensures .written) (f .written)
-    , rest-kept m (c .write-fences-count .result) path (c .args .out .now) (c .write-moves .last .out) (c .write-fences-count .last .out) h (c .write-moves .ensures .behind) (f .behind) )
+    let f = c .write-fences-count .ensures in (
+      ms,
+      spots (c .fewest-fences .result),
+      shows pr (c .args .queue .now) (c .in-Some .bad) ms (b .done) (b .apart) (l .run),
+      c .fewest-fences .ensures,
+      run-length (length pr) m path h,
+      f .count,
+      all-written (p .count) (length pr) m (c .write-fences-count .result) path (c .args .out .now) (c .write-moves .last .out) (c .write-fences-count .last .out) (text-ss (spots (c .fewest-fences .result))) (sym (length-program p)) h (c .write-moves .ensures .written) (f .written),
+      rest-kept m (c .write-fences-count .result) path (c .args .out .now) (c .write-moves .last .out) (c .write-fences-count .last .out) h (c .write-moves .ensures .behind) (f .behind),
+    )

@@ -23,15 +23,15 @@ explore-requires c κs =
     let q2 = c .split-at-mut-queue .ensures .back-len in
     let e1 = c .split-at-mut-edges .ensures .front-len in
     let e2 = c .split-at-mut-edges .ensures .back-len in
-    record
-      { some = f .some-fit
-      ; told = f .told
-      ; key = omega arith
-      ; ends = subst (λ (z : ℕ). limit * width z ≤ length (c .split-at-mut-queue .result .0 .now)) (sym l) (omega arith)
-      ; edges-end = subst (λ (z : ℕ). limit * moves-of z ≤ length (c .split-at-mut-edges .result .0 .now)) (sym l) (omega arith)
-      ; small = omega arith
-      ; fits = omega arith
-      }
+    record {
+      some = f .some-fit;
+      told = f .told;
+      key = omega arith;
+      ends = subst (λ (z : ℕ). limit * width z ≤ length (c .split-at-mut-queue .result .0 .now)) (sym l) (omega arith);
+      edges-end = subst (λ (z : ℕ). limit * moves-of z ≤ length (c .split-at-mut-edges .result .0 .now)) (sym l) (omega arith);
+      small = omega arith;
+      fits = omega arith;
+    }
 
 pub look-found-requires : need.look-found-requires
 look-found-requires c κs =
@@ -52,12 +52,12 @@ look-found-requires c κs =
     let kt = c .explore .kept .table in
     let a = mul-le-mul-right (width (p .count)) few in
     let b = mul-le-mul-right (moves-of (p .count)) few in
-    record
-      { explored = c .in-Some .ensures tt .0
-      ; held = subst (λ (z : ℕ). n * width z ≤ length (c .explore .last .queue)) (sym l) (omega arith)
-      ; kept = subst (λ (z : ℕ). n * moves-of z ≤ length (c .explore .last .edges)) (sym l) (omega arith)
-      ; room = omega arith
-      }
+    record {
+      explored = c .in-Some .ensures tt .0;
+      held = subst (λ (z : ℕ). n * width z ≤ length (c .explore .last .queue)) (sym l) (omega arith);
+      kept = subst (λ (z : ℕ). n * moves-of z ≤ length (c .explore .last .edges)) (sym l) (omega arith);
+      room = omega arith;
+    }
 
 pub returns-in-None : need.returns-in-None
 returns-in-None c = ((λ m h w. crowded-too (program (c .args .p .now)) (c .states-that-fit-limit .result) m (c .states-that-fit-limit .ensures .most m h w) (c .in-None .ensures tt)), refl)

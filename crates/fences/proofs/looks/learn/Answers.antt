@@ -19,7 +19,7 @@ pub returns-in-rest : need.returns-in-rest
 returns-in-rest c =
     absurd
     (never-long (c .args .p .now) (c .args .queue .now) (c .args .edges .now) (c .args .guards) (c .args .n) (c .pre .explored) (c .args .bad) (c .args .path .now) (c .walk-back .last .path)
-     (c .pre .room) (c .in-rest .ensures tt))
+    (c .pre .room) (c .in-rest .ensures tt))
 
 pub returns : need.returns
 returns c =

@@ -29,8 +29,9 @@ pub returns : need.returns
 returns c s h =
     let a = at (c .thread-of-thread .result) in
     let i = instruction (c .in-Some .i) in
-    let m = ap (λ (m : List ℕ). does m a i) (sym (memory-is (c .args .from .now) s h)) in
-    ( with-thread s (c .args .n) (at (c .in-Some-does .done))
-    , next-some (program (c .args .p .now)) s (c .args .n) a (at (c .in-Some-does .done)) i (c .thread-of-thread .ensures s h) (c .in-Some .ensures tt .0) (m ∙ c .in-Some-does .ensures tt)
-    , c .put-thread .ensures s (subst (λ (w : List ℕ). Packs w s) (sym (c .copy-from-slice .ensures .after)) h)
-    , length-put (s .threads) (c .args .n) (at (c .in-Some-does .done)) )
+    let m = ap (λ (m : List ℕ). does m a i) (sym (memory-is (c .args .from .now) s h)) in (
+      with-thread s (c .args .n) (at (c .in-Some-does .done)),
+      next-some (program (c .args .p .now)) s (c .args .n) a (at (c .in-Some-does .done)) i (c .thread-of-thread .ensures s h) (c .in-Some .ensures tt .0) (m ∙ c .in-Some-does .ensures tt),
+      c .put-thread .ensures s (subst (λ (w : List ℕ). Packs w s) (sym (c .copy-from-slice .ensures .after)) h),
+      length-put (s .threads) (c .args .n) (at (c .in-Some-does .done)),
+    )

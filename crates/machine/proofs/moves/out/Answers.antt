@@ -31,11 +31,12 @@ returns c s h =
     let (w, f) = c .rest .ensures .first in
     let first = same-first (wait o) w (waits (t .row)) us (waits (c .rest .result)) e f in
     let b : At = record { pc = t .pc; regs = nibbles 4 (t .regs); waits = waits (c .rest .result) } in
-    let place = c .oldest-oldest .ensures .place in
-    ( record { mem = put (s .mem) (o .place .0) (o .value); threads = put (s .threads) (c .args .n) b }
-    , out-some (program (c .args .p .now)) s (c .args .n) a (wait o) (waits (c .rest .result)) (c .thread-of-thread .ensures s h) first
-    , out-packs (c .args .from .now) (c .put-thread .last .state) s (c .args .n) b (o .place .0) (o .value) (c .with-nibble .result) h
-      (c .put-thread .ensures s (subst (λ (w : List ℕ). Packs w s) (sym (c .copy-from-slice .ensures .after)) h))
-      (c .with-nibble .ok)
-      (c .with-nibble .ensures .after 8 place)
-    , length-put (s .threads) (c .args .n) b )
+    let place = c .oldest-oldest .ensures .place in (
+      record { mem = put (s .mem) (o .place .0) (o .value); threads = put (s .threads) (c .args .n) b },
+      out-some (program (c .args .p .now)) s (c .args .n) a (wait o) (waits (c .rest .result)) (c .thread-of-thread .ensures s h) first,
+      out-packs (c .args .from .now) (c .put-thread .last .state) s (c .args .n) b (o .place .0) (o .value) (c .with-nibble .result) h
+          (c .put-thread .ensures s (subst (λ (w : List ℕ). Packs w s) (sym (c .copy-from-slice .ensures .after)) h))
+          (c .with-nibble .ok)
+          (c .with-nibble .ensures .after 8 place),
+      length-put (s .threads) (c .args .n) b,
+    )

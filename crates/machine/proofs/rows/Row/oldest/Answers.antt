@@ -11,8 +11,8 @@ returns c =
     let r = q .room in
     let h = c .pre in
     let s = q .small (q .begin) _ (omega arith) in
-    record
-      { first = (row (q .items) (q .begin + 1) (q .len - 1), row-popped (q .items) (q .begin) (q .len) _ h (omega arith))
-      ; place = s .0
-      ; value = s .1
-      }
+    record {
+      first = (row (q .items) (q .begin + 1) (q .len - 1), row-popped (q .items) (q .begin) (q .len) _ h (omega arith));
+      place = s .0;
+      value = s .1;
+    }
