@@ -36,7 +36,7 @@ pub fn place(heap: Global, names: &[String], x: Place) -> Result<String, AllocEr
 }
 
 // An instruction as it stands in a cell.
-fn cell_text(heap: Global, names: &[String], i: Instruction) -> Result<String, AllocError>
+pub fn cell_text(heap: Global, names: &[String], i: Instruction) -> Result<String, AllocError>
     ensures { λ r. ⌜ made r (λ s. string-bytes s ≡ show-i (words (now (names .entry))) (instruction i)) ⌝ }
 {
     match i {
