@@ -38,7 +38,7 @@ fn known_programs_have_the_published_outcomes(rt: LibcRuntime) -> Result<(), Fai
     has(heap, LOAD_BUFFERING, 3, 3)?;
     has(heap, INDEPENDENT_READS, 15, 15)?;
     // its own store is read before it goes to memory
-    has(heap, OWN_STORE_EARLY, 9, 8)?;
+    has(heap, OWN_STORE_EARLY, 5, 4)?;
     has(heap, NOTHING, 1, 1)
 }
 
