@@ -51,6 +51,11 @@ fn answers_at_the_edges(rt: LibcRuntime) -> Result<(), Fail> {
     check(matches!(short.listed, Listed::Few))?;
     let enough = ask(heap, words.as_slice(), 2000, 65_536 + 128 * 2001)?;
     check(matches!(enough.listed, Listed::Outcomes(4, _)))?;
+    // exactly as many states as are allowed, and one more, which the lent memory holds too
+    let all = ask(heap, words.as_slice(), 45, 65_536 + 128 * 46)?;
+    check(matches!(all.listed, Listed::Outcomes(4, 45)))?;
+    let more = ask(heap, words.as_slice(), 44, 65_536 + 128 * 45)?;
+    check(matches!(more.listed, Listed::Outcomes(4, 45)))?;
     check(matches!(ask(heap, &[2, 9], 10, 100_000)?.listed, Listed::NoProgram))?;
     // one word of out short, and just enough: 4 rows of 17 words
     let mut work = vec![in heap; 0u32; 100_000]?;
