@@ -1,4 +1,6 @@
 // Tests of what the programs share: numbers in lines, and what is shown of an outcome.
+#![tactic(auto)]
+
 use cli::{numbers, shown};
 use std::alloc::Global;
 use std::process::Abort;

@@ -1,4 +1,6 @@
 // look [FILE]: is a program of threads plain; if not, a run that shows it, and the fewest fences.
+#![tactic(auto)]
+
 mod answers;
 mod by_words;
 mod moves;

@@ -1,4 +1,6 @@
 // outcomes [FILE]: all outcomes of a program of threads, with and without waiting stores.
+#![tactic(auto)]
+
 mod by_words;
 mod listing;
 mod rows;

@@ -92,8 +92,8 @@ module _ (ns : List Word) (proper : Proper ns) (c : Column) (ds : List Column) (
 
   -- a row has something to say in its only column
   row_dark : (r : ℕ) → r < height threads → length ds ≡ 0 → all blank (show_cell ns c (suc r)) ≡ false
-  row_dark r l NoneMore =
-      let short = height_one ds NoneMore in
+  row_dark r l none_more =
+      let short = height_one ds none_more in
       let (i, e) = nth_some c.code r (omega arith) in
       ap (λ (o : Option I). all blank (opt o [] (show_i ns))) e ∙ dark ns i
     where

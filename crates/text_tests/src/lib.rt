@@ -1,4 +1,6 @@
 // Tests of the readable form: what is refused, with its message and its place, and what is read and printed again.
+#![tactic(auto)]
+
 use program::instructions::Instruction;
 use std::alloc::Global;
 use std::process::Abort;

@@ -19,8 +19,8 @@ find-move-requires g c =
 pub back-preserved : goal.back-preserved
 back-preserved g c =
     filled_more (g.R.Rule.can c.args.rule.now) (g.R.Rule.next c.args.rule.now) c.args.moves c.args.from.now c.args.to c.args.len
-    c.args.path.now c.back.at _ c.back.node c.back.path c.find-move.result (omega arith)
-    (let l = c.back.invariant.long in omega arith) c.find-move.ensures.below c.find-move.ensures.leads c.back.invariant
+    c.args.path.now c.back.at _ c.back.node c.back.path c.find_move.result (omega arith)
+    (let l = c.back.invariant.long in omega arith) c.find_move.ensures.below c.find_move.ensures.leads c.back.invariant
 
 pub returns : goal.returns
 returns g c =

@@ -9,4 +9,4 @@ count-links-len-requires g c =
 pub returns-then-len-path : goal.returns-then-len-path
 returns-then-len-path g c =
     traced_long (g.R.Rule.can c.args.rule.now) (g.R.Rule.next c.args.rule.now) c.args.moves c.args.from.now c.args.to
-    c.count-links-len.result c.args.path.now c.requires.traced c.count-links-len.ensures (omega arith)
+    c.count_links-len.result c.args.path.now c.requires.traced c.count_links-len.ensures (omega arith)

@@ -14,11 +14,11 @@ loop-i-preserved c = (
 
 pub returns-then-i-key : goal.returns-then-i-key
 returns-then-i-key c =
-    c.spread-out.ensures
+    c.spread_out.ensures
     ∙ ap spread c.stirred.ensures
     ∙ hash_last c.args.key.now c.loop-i.h c.loop-i.i (hash_of c.args.key.now) (omega arith) c.loop-i.invariant.1
 
 pub returns-else-i-key : goal.returns-else-i-key
 returns-else-i-key c =
-    c.spread-out-else-i-key.ensures
+    c.spread_out-else-i-key.ensures
     ∙ hash_all c.args.key.now c.loop-i.h c.loop-i.i (hash_of c.args.key.now) (omega arith) c.loop-i.invariant.1

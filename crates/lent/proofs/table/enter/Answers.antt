@@ -12,6 +12,6 @@ pub returns : goal.returns
 returns c =
     let s = c.args.shape in
     let q = c.args.queue.now in
-    let from_is = c.first-place-from.ensures.value ∙ ap (home s) (rec_part q s.width c.args.n) in
-    let r = entered_here s q c.args.table.now c.args.n c.first-place-from.result c.free-place-at.result c.requires.probed c.requires.room c.requires.ends from_is c.first-place-from.ensures.below c.free-place-at.ensures in
+    let from_is = c.first_place-from.ensures.value ∙ ap (home s) (rec_part q s.width c.args.n) in
+    let r = entered_here s q c.args.table.now c.args.n c.first_place-from.result c.free_place-at.result c.requires.probed c.requires.room c.requires.ends from_is c.first_place-from.ensures.below c.free_place-at.ensures in
     record { probed = r.0; rest = r.1 }

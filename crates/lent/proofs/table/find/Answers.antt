@@ -10,7 +10,7 @@ is-record-requires c =
 pub probe-preserved : goal.probe-preserved
 probe-preserved c =
     looked_more c.args.shape c.args.queue.now c.args.table.now c.args.n c.args.key.now c.probe.at c.requires.probed c.requires.room c.probe.invariant (omega arith)
-    (λ same. both_ways c.is-record.result c.if-is-record.false (c.is-record.ensures.1 same))
+    (λ same. both_ways c.is_record.result c.if-is_record.false (c.is_record.ensures.1 same))
 
 pub returns-then-entry-eq0 : goal.returns-then-entry-eq0
 returns-then-entry-eq0 c =
