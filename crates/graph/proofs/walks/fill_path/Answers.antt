@@ -2,8 +2,8 @@ use Rattle.std.proofs.Common.{arith}
 use Rattle.graph.proofs.Tracing.{filled_some, filled_more, filled_all, traced_leads, traced_may}
 use Rattle.graph.proofs.walks.fill_path.Goals as goal
 
-pub find-move-requires : goal.find-move-requires
-find-move-requires g c =
+pub find_move-requires : goal.find_move-requires
+find_move-requires g c =
     let can = g.R.Rule.can c.args.rule.now in
     let next = g.R.Rule.next c.args.rule.now in
     let traced = c.back.invariant.traced in

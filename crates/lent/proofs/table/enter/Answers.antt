@@ -4,9 +4,9 @@ use Rattle.lent.proofs.RecordLaws.{rec_part}
 use Rattle.lent.proofs.Probing.{some_free, entered_here}
 use Rattle.lent.proofs.table.enter.Goals as goal
 
-pub free-place-at-requires : goal.free-place-at-requires
-free-place-at-requires c =
-    some_free c.args.shape c.args.queue.now c.args.table.now c.args.n c.first-place-from.result c.requires.probed c.requires.room c.first-place-from.ensures.below
+pub free_place-at-requires : goal.free_place-at-requires
+free_place-at-requires c =
+    some_free c.args.shape c.args.queue.now c.args.table.now c.args.n c.first_place-from.result c.requires.probed c.requires.room c.first_place-from.ensures.below
 
 pub returns : goal.returns
 returns c =
