@@ -6,4 +6,4 @@ pub returns : goal.returns
 returns c s h =
     let (t, k, l) = c.requires.holds in
     let e = same_count c.args.state.now s t h k in
-    put_packs c.args.state.now s c.args.n c.args.t.now c.pack-thread-words.result h (omega arith) c.pack-thread-words.ensures
+    put_packs c.args.state.now s c.args.n c.args.t.now c.pack_thread-words.result h (omega arith) c.pack_thread-words.ensures

@@ -13,5 +13,5 @@ returns c =
     let f = t.few in
     let w = word_is t.regs t.pc q.len t.four t.few (omega arith) in
     let l : q.len ≡ length (waits q) = sym (length_row q.items q.begin q.len (omega arith)) in
-    let p = c.pack-row-values.ensures in
+    let p = c.pack_row-values.ensures in
     three_words _ _ _ _ _ _ (w ∙ ap (λ n. number (nibbles 4 t.regs) + 65536 * t.pc + 1048576 * n) l) p.0 p.1

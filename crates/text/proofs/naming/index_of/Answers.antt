@@ -18,7 +18,7 @@ returns-then-eq c =
     let l = c.loop-k-test.true in
     let long = length-map all string_bytes in
     let d = slice_eq-Decides Decides-eqb _ _ _ c.eq.ensures in
-    let e = looked all k c.index-all-k.result c.as-bytes.result.now word c.eq.result l c.index-all-k.is c.as-bytes.ensures.value d in
+    let e = looked all k c.index-all-k.result c.as_bytes.result.now word c.eq.result l c.index-all-k.is c.as_bytes.ensures.value d in
     record { value = upto_found word (words all) k (omega arith) (e ∙ c.if-eq.true) c.loop-k.invariant; within = l }
 
 pub loop-k-preserved : goal.loop-k-preserved
@@ -29,7 +29,7 @@ loop-k-preserved c =
     let l = c.loop-k-test.true in
     let long = length-map all string_bytes in
     let d = slice_eq-Decides Decides-eqb _ _ _ c.eq.ensures in
-    let e = looked all k c.index-all-k.result c.as-bytes.result.now word c.eq.result l c.index-all-k.is c.as-bytes.ensures.value d in
+    let e = looked all k c.index-all-k.result c.as_bytes.result.now word c.eq.result l c.index-all-k.is c.as_bytes.ensures.value d in
     upto_more word (words all) k (omega arith) (e ∙ c.if-eq.false) c.loop-k.invariant
 
 pub returns : goal.returns

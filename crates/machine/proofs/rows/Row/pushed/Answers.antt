@@ -3,12 +3,12 @@ use Rattle.std.proofs.lemmas.List.{length-set}
 use Rattle.machine.proofs.RowLaws.{row_pushed, small_set}
 use Rattle.machine.proofs.rows.Row.pushed.Goals as goal
 
-pub invariant-of-result : goal.invariant-of-result
-invariant-of-result c =
+pub invariant_of-result : goal.invariant_of-result
+invariant_of-result c =
     let q = c.args.self.now in
     let l = length-set q.items (q.begin + q.len) c.args.s in
     let e = q.eight in
-    (omega arith, (omega arith, (small_set q.items (q.begin + q.len) c.args.s c.requires.place c.requires.value q.small, tt)))
+    record { eight = omega arith; room = omega arith; small = small_set q.items (q.begin + q.len) c.args.s c.requires.place c.requires.value q.small }
 
 pub returns : goal.returns
 returns c =
