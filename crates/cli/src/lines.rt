@@ -17,11 +17,12 @@ pub struct Lines {
 }
 
 impl Lines {
-    pub fn new(rt: &HostRuntime) -> Lines {
-        Lines {
-            reader: BufReader::new(rt.stdin()),
-            number: 0,
-        }
+    pub fn new(rt: &HostRuntime) -> Result<Lines, Trouble> {
+        // all that can fail here is to get the buffer's memory
+        let Ok(reader) = BufReader::new(rt.alloc(), rt.stdin()) else {
+            return Err(Trouble::Memory);
+        };
+        Ok(Lines { reader, number: 0 })
     }
 
     // The next byte, if the input has not ended.

@@ -27,7 +27,7 @@ fn answer_one(rt: &HostRuntime, lent: &mut Lent, words: &[u32]) -> Result<(), Tr
 pub fn answer(rt: &HostRuntime) -> Result<(), Trouble> {
     let heap = rt.alloc();
     let mut lent = Lent::new(heap)?;
-    let mut lines = Lines::new(rt);
+    let mut lines = Lines::new(rt)?;
     for _ in 0..u64::MAX {
         let Some(line) = lines.line(heap)? else {
             break;

@@ -9,6 +9,7 @@ mod verdict;
 use cli::arguments::{Mode, Request};
 use cli::troubles::Trouble;
 use cli::{arguments, input, numbers, troubles};
+use std::process::ExitCode;
 use text::words;
 
 const HELP: &str = "usage: look [--help | --to-words] [FILE]
@@ -46,6 +47,10 @@ fn run(rt: &HostRuntime) -> Result<(), Trouble> {
     Ok(())
 }
 
-fn main(rt: HostRuntime) -> Result<(), Trouble> {
-    troubles::report(&rt, run(&rt))
+fn main(rt: HostRuntime) -> ExitCode {
+    // what went wrong is said by then, so that `main` says no more of it
+    match troubles::report(&rt, run(&rt)) {
+        Ok(()) => ExitCode::SUCCESS,
+        Err(_said) => ExitCode::FAILURE,
+    }
 }

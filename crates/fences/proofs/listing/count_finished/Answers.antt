@@ -23,14 +23,14 @@ loop-i-preserved c =
     let st = state (length (program p)) q i in
     elim c.if-finished.branch [
       | then-finished w ↦
-          let e = w.count_is in (
+          let e = w.count-is in (
             omega arith,
             λ cost.
                 let m = count_more (program p) q cost i c.args.n c.loop-i.count (length (rows_from (program p) q cost 0 c.args.n)) c.loop-i-test.true (sym (w.if-finished.ensures st packs)) (c.loop-i.invariant.1 cost) in
                 omega arith,
           )
       | else-finished w ↦
-          let e = w.count_is in (
+          let e = w.count-is in (
             omega arith,
             λ cost.
                 let m = count_same (program p) q cost i c.args.n c.loop-i.count (length (rows_from (program p) q cost 0 c.args.n)) c.loop-i-test.true (sym (w.if-finished.ensures st packs)) (c.loop-i.invariant.1 cost) in

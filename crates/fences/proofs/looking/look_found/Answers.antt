@@ -8,15 +8,15 @@ use Rattle.fences.proofs.Answered.{cut_below, cut_length, run_length, all_writte
 use Rattle.fences.proofs.SearchLaws.{plain, shows}
 use Rattle.fences.proofs.looking.look_found.Goals as goal
 
-pub returns-in-default : goal.returns-in-default
-returns-in-default c = (plain (program c.args.p.now) c.in-default.ensures, refl)
+pub returns-in_default : goal.returns-in_default
+returns-in_default c = (plain (program c.args.p.now) c.in_default.ensures, refl)
 
 pub learn-moves-requires : goal.learn-moves-requires
 learn-moves-requires c =
-    let f = c.split-at-mut-from.ensures.front-len in
-    let k1 = c.mark-at-once.auto.from in
-    let k2 = c.look-at.auto.from in
-    record { explored = c.requires.explored; kept = c.requires.kept; in_from = omega arith; bad = (c.look-at.new.cost, c.in-Some.ensures); room = refl }
+    let f = c.split_at_mut-from.ensures.front_len in
+    let k1 = c.mark_at_once.auto.from in
+    let k2 = c.look_at.auto.from in
+    record { explored = c.requires.explored; kept = c.requires.kept; in_from = omega arith; bad = (c.look_at.new.cost, c.in-Some.ensures); room = refl }
 
 pub returns-then-out-lt256 : goal.returns-then-out-lt256
 returns-then-out-lt256 c =
@@ -26,8 +26,8 @@ returns-then-out-lt256 c =
     let ms = map (move_of (length p)) (take c.learn-moves.result.0 c.learn-moves.new.path) in
     (ms, shows p c.args.queue.now c.in-Some.bad ms b.done b.apart l.run, c.if-out-lt256.true, refl)
 
-pub write-moves-requires : goal.write-moves-requires
-write-moves-requires c =
+pub write_moves-requires : goal.write_moves-requires
+write_moves-requires c =
     let p = c.args.p.now in
     let l = c.learn-moves.ensures in
     let k = c.learn-moves.auto.path in
@@ -53,13 +53,13 @@ returns c =
     let path = c.learn-moves.new.path in
     let h : m ≤ length path = let few = l.few in omega arith in
     let ms = map (move_of (length pr)) (take m path) in
-    let f = c.write-fences-count.ensures in (
+    let f = c.write_fences-count.ensures in (
       ms,
       spots c.fewest-fences.result,
       shows pr c.args.queue.now c.in-Some.bad ms b.done b.apart l.run,
       c.fewest-fences.ensures,
       run_length (length pr) m path h,
       f.count,
-      all_written p.count (length pr) m c.write-fences-count.result path c.args.out.now c.write-moves.new.out c.write-fences-count.new.out (text_ss (spots c.fewest-fences.result)) (sym (length_program p)) h c.write-moves.ensures.written f.written,
-      rest_kept m c.write-fences-count.result path c.args.out.now c.write-moves.new.out c.write-fences-count.new.out h c.write-moves.ensures.behind f.behind,
+      all_written p.count (length pr) m c.write_fences-count.result path c.args.out.now c.write_moves.new.out c.write_fences-count.new.out (text_ss (spots c.fewest-fences.result)) (sym (length_program p)) h c.write_moves.ensures.written f.written,
+      rest_kept m c.write_fences-count.result path c.args.out.now c.write_moves.new.out c.write_fences-count.new.out h c.write_moves.ensures.behind f.behind,
     )
