@@ -1,12 +1,11 @@
 -- One edge more: its word written, and all that is known of the states and the earlier edges kept.
-use Rattle.std.proofs.Common.{◌≡◌, ℕ, zero, suc, ◌+◌, ◌-◌, ◌*◌, ◌/◌, ◌%◌, ◌<◌, ◌≤◌, Bool, true, false, ◌≢◌, ◌⊎◌, List, [], ◌∷◌, ◌++◌, length, get_or, take, drop, set, Some, None, sym, refl, ap, ◌∙◌, subst, inl, inr, mul-le-mul_right, add-one, arith, length-append}
-use mathlib.Core.Option.{some, none}
+use Rattle.std.proofs.Common.{◌≡◌, ℕ, suc, ◌+◌, ◌-◌, ◌*◌, ◌/◌, ◌%◌, ◌<◌, ◌≤◌, true, false, List, [], ◌∷◌, ◌++◌, length, get_or, take, drop, set, Some, sym, ap, ◌∙◌, subst, inl, inr, mul-le-mul_right, add-one, arith, length-append}
+use mathlib.Core.Option.{some}
 use Rattle.std.proofs.lemmas.Bool.{cases_lt, cases_eq}
 use Rattle.std.proofs.lemmas.List.{get_or-set_same, get_or-set_other, length-take, length-drop}
 use Rattle.std.proofs.lemmas.Nat.{div-mul-add, mod-mul-add}
 use Rattle.lent.specs.declared.shape.Shape.{Shape}
 use Rattle.lent.specs.Records.{rec}
-use Rattle.lent.specs.Table.{Probed}
 use Rattle.lent.proofs.RecordLaws.{ends_within, rec_kept, rec_part}
 use Rattle.model.specs.Code.{Prog}
 use Rattle.model.specs.Machine.{St, Move, move, moves, begin}
@@ -15,7 +14,7 @@ use Rattle.machine.specs.Packed.{Packs}
 use Rattle.machine.specs.Post.{Holds, Stepped}
 use Rattle.explore.specs.Found.{width, moves_of, move_of, state, Edge, Found, Sorted, Near, Crowded}
 use Rattle.explore.specs.Post.{Entered, Refused, Going, Visited}
-use Rattle.explore.proofs.Finding.{Kept, state_kept, state_is, found_kept, sorted_kept, near_kept, edge_kept, new_state, found_more, sorted_more, near_more, crowded, last_or}
+use Rattle.explore.proofs.Finding.{Kept, state_kept, state_is, found_kept, sorted_kept, near_kept, edge_kept, found_more, sorted_more, near_more, crowded}
 
 -- where a state's words and an edge's word stand
 pub words_within : (i n limit w len : ℕ) → i < n → n ≤ limit → limit * w ≤ len → i * w + w ≤ len

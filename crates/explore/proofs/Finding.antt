@@ -1,16 +1,16 @@
 -- States found so far: what is found stays as the queue grows, one state more keeps all that is said of them, and one
 -- too many is evidence that there are more states than may be.
-use Rattle.std.proofs.Common.{◌≡◌, ℕ, zero, suc, ◌+◌, ◌*◌, ◌<◌, ◌≤◌, ◌⊎◌, List, [], ◌∷◌, ◌++◌, length, take, sym, refl, ap, ◌∙◌, subst, inl, inr, arith}
-use mathlib.Core.Option.{Option, some, none}
+use Rattle.std.proofs.Common.{◌≡◌, ℕ, zero, suc, ◌+◌, ◌*◌, ◌<◌, ◌≤◌, ◌⊎◌, List, [], ◌∷◌, length, take, sym, refl, ap, ◌∙◌, subst, inl, inr, arith}
+use mathlib.Core.Option.{some}
 use Rattle.std.proofs.lemmas.Bool.{cases_lt}
 use Rattle.lent.specs.Records.{rec}
 use Rattle.lent.proofs.RecordLaws.{rec_kept}
 use Rattle.model.specs.Code.{Prog}
 use Rattle.model.specs.Machine.{St, Move, move, moves, begin}
-use Rattle.model.proofs.Levels.{level, level_run, level_move, run_threads}
+use Rattle.model.proofs.Levels.{level_run, run_threads}
 use Rattle.machine.specs.Packed.{unpack, Packs}
 use Rattle.machine.proofs.Unpacking.{unpack_packs, words_one}
-use Rattle.explore.specs.Found.{width, moves_of, move_of, state, Edge, Found, Sorted, Near, Among, at_first, behind, Different, AllComeTo, Crowded}
+use Rattle.explore.specs.Found.{width, move_of, state, Edge, Found, Sorted, Near, Among, at_first, behind, Different, AllComeTo, Crowded}
 
 -- a queue that keeps its first n records
 abbrev pub Kept : ℕ → List ℕ → List ℕ → ℕ → Type 0

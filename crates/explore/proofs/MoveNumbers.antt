@@ -1,9 +1,8 @@
 -- Moves by number: below the number of threads a next instruction, from there on a store going out.
-use Rattle.std.proofs.Common.{◌≡◌, ℕ, ◌-◌, ◌<◌, ◌≤◌, Bool, true, false, ltb, List, sym, refl, ap, ◌∙◌, subst}
-use mathlib.Core.Option.{Option}
+use Rattle.std.proofs.Common.{◌≡◌, ℕ, ◌-◌, ◌<◌, ◌≤◌, Bool, List, sym, ap, subst}
 use Rattle.std.proofs.lemmas.Bool.{lt-ltb, le-ltb}
 use Rattle.model.specs.Code.{pick, Prog}
-use Rattle.model.specs.Machine.{St, Move, next, out, move}
+use Rattle.model.specs.Machine.{Move, next, out, move}
 use Rattle.machine.specs.Post.{Stepped}
 use Rattle.explore.specs.Found.{move_of}
 

@@ -1,21 +1,20 @@
 -- States have their turn one after the other: before the first, between two, and when all have had it.
-use Rattle.std.proofs.Common.{◌≡◌, ℕ, zero, suc, ◌+◌, ◌-◌, ◌*◌, ◌<◌, ◌≤◌, true, false, ltb, ◌⊎◌, List, [], ◌∷◌, ◌++◌, length, get_or, take, drop, replicate, sym, refl, ap, ◌∙◌, subst, inl, inr, mul-le-mul_right, arith}
-use mathlib.Core.Option.{some, none}
+use Rattle.std.proofs.Common.{◌≡◌, ℕ, zero, suc, ◌+◌, ◌-◌, ◌*◌, ◌<◌, ◌≤◌, List, [], ◌∷◌, length, get_or, take, drop, replicate, sym, refl, ap, ◌∙◌, subst, inl, inr, mul-le-mul_right, arith}
+use mathlib.Core.Option.{some}
 use Rattle.std.proofs.lemmas.Bool.{cases_lt}
 use Rattle.lent.specs.declared.shape.Shape.{Shape}
 use Rattle.lent.specs.Records.{rec}
 use Rattle.lent.specs.Table.{homes, Probed}
 use Rattle.lent.proofs.RecordLaws.{rec_is}
-use Rattle.model.specs.Code.{opt, nth, pick, Prog}
-use Rattle.model.specs.Machine.{At, St, Move, next, out, move, moves, begin}
-use Rattle.model.proofs.Levels.{level_run, level_move, run_more, run_threads}
+use Rattle.model.specs.Code.{nth, Prog}
+use Rattle.model.specs.Machine.{St, Move, next, out, move, moves, begin}
+use Rattle.model.proofs.Levels.{level_run, level_move, run_threads}
 use Rattle.model.proofs.Tools.{opt_some}
 use Rattle.machine.specs.Packed.{Packs}
 use Rattle.machine.proofs.Unpacking.{start_packs}
-use Rattle.explore.specs.Found.{width, moves_of, move_of, state, Edge, Found, Sorted, Near, Explored}
+use Rattle.explore.specs.Found.{width, moves_of, move_of, state, Edge, Explored}
 use Rattle.explore.specs.Post.{Going, Between}
-use Rattle.explore.proofs.Finding.{state_is, same_length, last_or}
-use Rattle.explore.proofs.Edges.{earlier_node}
+use Rattle.explore.proofs.Finding.{state_is, same_length}
 use Rattle.explore.proofs.MoveNumbers.{move_next, move_out}
 
 -- the first state alone

@@ -1,7 +1,7 @@
 -- The states that are found, in the queue's words, one record each; and the edges between them, in words of their own.
 -- At i * moves + m stands 0 where move m can't be made in state i, else the number of the state that it leads to, plus 1.
 use Rattle.std.specs.Prelude.{◌≡◌, ℕ, zero, suc, ◌+◌, ◌-◌, ◌*◌, ◌<◌, ◌≤◌, List, [], ◌∷◌, length, nat_lt, slice_index}
-use Rattle.std.proofs.Math.Option.{Option, some, none}
+use Rattle.std.proofs.Math.Option.{some, none}
 use Rattle.lent.specs.Records.{rec}
 use Rattle.model.specs.Code.{pick, Prog}
 use Rattle.model.specs.Machine.{St, Move, next, out, move, moves, begin}

@@ -1,10 +1,10 @@
 -- What the steps of exploration promise.
-use Rattle.std.specs.Prelude.{◌≡◌, ℕ, suc, ◌+◌, ◌*◌, ◌<◌, ◌≤◌, List, length, take, Some, None, Option, ◌≢◌, slice_index}
+use Rattle.std.specs.Prelude.{◌≡◌, ℕ, ◌+◌, ◌*◌, ◌<◌, ◌≤◌, List, length, take, Some, None, Option, ◌≢◌, slice_index}
 use Rattle.lent.specs.declared.shape.Shape.{Shape}
 use Rattle.lent.specs.Records.{rec}
 use Rattle.lent.specs.Table.{homes, Probed}
 use Rattle.model.specs.Code.{Prog}
-use Rattle.explore.specs.Found.{width, moves_of, state, Edge, Found, Sorted, Near, Explored, Crowded}
+use Rattle.explore.specs.Found.{width, moves_of, Edge, Found, Sorted, Near, Explored, Crowded}
 
 -- a record looked for among the first n, and written behind them if it is new and there is room: it is record j now
 pub record Entered (s : Shape) (limit : ℕ) (q t : List ℕ) (n : ℕ) (key q' t' : List ℕ) (j n' : ℕ) : Type 0 where

@@ -1,18 +1,17 @@
 -- The finished states found are the outcomes: an outcome determines the finished state, so different states have
 -- different outcomes, and a state is marked exactly if its outcome comes out at once.
-use Rattle.std.proofs.Common.{◌≡◌, ℕ, zero, suc, ◌+◌, ◌-◌, ◌<◌, ◌≤◌, Bool, true, false, ltb, ◌⊎◌, ◌↔◌, List, [], ◌∷◌, ◌++◌, length, get_or, sym, refl, ap, ◌∙◌, subst, inl, inr, arith}
-use mathlib.Core.Option.{some, none}
-use Rattle.std.proofs.lemmas.Bool.{cases_lt, cases_eq, ltb-true, ltb-false, lt-ltb}
+use Rattle.std.proofs.Common.{◌≡◌, ℕ, zero, suc, ◌+◌, ◌<◌, ◌≤◌, Bool, true, false, ltb, ◌↔◌, List, ◌∷◌, length, get_or, sym, refl, ap, ◌∙◌, subst, inl, inr, arith}
+use mathlib.Core.Option.{some}
+use Rattle.std.proofs.lemmas.Bool.{cases_eq, ltb-true, lt-ltb}
 use Rattle.graph.specs.Search.{Marked}
 use Rattle.model.specs.Code.{pick, Prog}
-use Rattle.model.specs.Machine.{St, Move, moves, begin, all_done, outcome, all_at_once}
-use Rattle.model.specs.Outcomes.{Waiting, AtOnce}
+use Rattle.model.specs.Machine.{St, begin, all_done, outcome}
 use Rattle.model.proofs.OneEnd.{one_end}
 use Rattle.model.proofs.AlsoWaiting.{all_moves}
-use Rattle.explore.specs.Found.{state, Found, Explored}
+use Rattle.explore.specs.Found.{state, Explored}
 use Rattle.once.specs.Once.{MarksOnce}
 use Rattle.fences.specs.Rows.{once_bit, row_of, done_at, rows_from}
-use Rattle.fences.specs.Listing.{Row, text, Right, Every, SomeRow, OnceEach, Lists}
+use Rattle.fences.specs.Listing.{Row, Right, Every, SomeRow, OnceEach, Lists}
 
 -- to show it of the rows, show it where the first state is finished and where it is not
 by_first : (P : List Row → Type 0) (b : Bool) (r : Row) (rs : List Row) → (b ≡ true → P (r ∷ rs)) → P rs → P (pick b (r ∷ rs) rs)

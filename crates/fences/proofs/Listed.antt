@@ -1,23 +1,20 @@
 -- The whole list: what is written is all outcomes, and so many states are all states.
-use Rattle.std.proofs.Common.{◌≡◌, ℕ, ◌+◌, ◌*◌, ◌/◌, ◌%◌, ◌<◌, ◌≤◌, ◌↔◌, List, [], ◌∷◌, ◌++◌, length, take, drop, sym, refl, ap, ◌∙◌, subst, inl, inr, mul-le-mul_left, arith}
-use mathlib.Core.Option.{some}
+use Rattle.std.proofs.Common.{◌≡◌, ℕ, ◌+◌, ◌*◌, ◌/◌, ◌<◌, ◌≤◌, List, length, sym, refl, ap, ◌∙◌, subst, inl, inr, mul-le-mul_left, arith}
 use Rattle.std.proofs.lemmas.Bool.{cases_lt}
 use Rattle.std.proofs.lemmas.Nat.{div-add-mod', le-div}
 use Rattle.model.specs.Code.{Prog}
-use Rattle.model.specs.Machine.{St, Move, moves, begin}
+use Rattle.model.specs.Machine.{St}
 use Rattle.program.specs.declared.threads.Program.{Program}
 use Rattle.program.specs.Meaning.{program}
-use Rattle.explore.specs.Found.{state, Found, Explored, Among, Crowded}
+use Rattle.explore.specs.Found.{Explored, Among, Crowded}
 use Rattle.explore.proofs.Finding.{listed, length_listed, different, come_to, listed_among}
-use Rattle.once.specs.Once.{MarksOnce}
-use Rattle.fences.specs.Listing.{text, Lists}
-use Rattle.fences.specs.Rows.{rows_from, Wrote}
+use Rattle.fences.specs.Listing.{text}
+use Rattle.fences.specs.Rows.{rows_from}
 use Rattle.fences.specs.declared.listing.Listed.{Listed}
 use Rattle.fences.specs.declared.listing.Listed.TheVariants as listed_as
 use Rattle.fences.specs.Says.{States, ListedFound, ListedOf, ListedSays, ListedPost}
 use Rattle.model.specs.Code.{Reads}
 use Rattle.model.proofs.Theorems.{theorems}
-use Rattle.fences.proofs.AllOutcomes.{lists}
 use Rattle.fences.proofs.RowLaws.{length_all}
 
 pub all_states : (p : Prog) (q g : List ℕ) (n : ℕ) → Explored p q g n → States p n

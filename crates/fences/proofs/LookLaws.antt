@@ -18,7 +18,7 @@ use Rattle.graph.specs.Search.{Marked, Searched}
 use Rattle.graph.specs.Back.{Traced, Written, TooLong}
 use Rattle.graph.proofs.Walked.{walk_fewer}
 use Rattle.graph.proofs.Asked.{traced_from}
-use Rattle.explore.specs.Found.{moves_of, move_of, state, Explored}
+use Rattle.explore.specs.Found.{moves_of, move_of, Explored}
 use Rattle.once.specs.Once.{MarksOnce}
 use Rattle.guard.specs.Masks.{mask}
 use Rattle.guard.specs.Rules.{guarded, Askable, AllHits}

@@ -4,12 +4,12 @@ use Rattle.std.proofs.lemmas.List.{drop-drop}
 use Rattle.lent.specs.Records.{rec}
 use Rattle.lent.proofs.RecordLaws.{length_rec}
 use Rattle.model.specs.Code.{pick, Prog}
-use Rattle.model.specs.Machine.{At, St, all_done, outcome, regs_of}
+use Rattle.model.specs.Machine.{At, St, outcome, regs_of}
 use Rattle.program.specs.declared.threads.Program.{Program}
 use Rattle.program.specs.Meaning.{program}
 use Rattle.program.proofs.WriteWords.{length_program}
 use Rattle.model.proofs.Levels.{run_threads}
-use Rattle.machine.specs.Packed.{Packs, Within, WithinTs}
+use Rattle.machine.specs.Packed.{Packs, WithinTs}
 use Rattle.explore.specs.Found.{width, state, Explored}
 use Rattle.explore.proofs.Edges.{words_within}
 use Rattle.fences.specs.Listing.{Row, text}

@@ -1,9 +1,9 @@
 -- The rows of the finished states among those found, in the order of their numbers.
-use Rattle.std.specs.Prelude.{◌≡◌, ℕ, zero, suc, ◌+◌, ◌-◌, ◌*◌, ◌≤◌, Bool, List, [], ◌∷◌, ◌++◌, length, take, drop, nat_lt, slice_index}
+use Rattle.std.specs.Prelude.{◌≡◌, ℕ, zero, suc, ◌+◌, Bool, List, [], ◌∷◌, ◌++◌, length, take, drop, nat_lt, slice_index}
 use Rattle.model.specs.Code.{pick, Prog}
 use Rattle.model.specs.Machine.{all_done, outcome}
 use Rattle.explore.specs.Found.{state}
-use Rattle.fences.specs.Listing.{Row, text}
+use Rattle.fences.specs.Listing.{Row}
 
 -- 1 where state i is marked
 abbrev pub once_bit : List ℕ → ℕ → ℕ

@@ -1,6 +1,6 @@
 -- How lent words are shared out: one state's words, the states found, their edges, and the table of states, which
 -- later serves for marks. Each state that may be has its words in all four.
-use Rattle.std.specs.Prelude.{◌≡◌, ℕ, ◌+◌, ◌*◌, ◌^◌, ◌<◌, ◌≤◌}
+use Rattle.std.specs.Prelude.{ℕ, ◌+◌, ◌*◌, ◌^◌, ◌<◌, ◌≤◌}
 use Rattle.explore.specs.Found.{width, moves_of}
 
 -- so many states of n threads may be found in so many words

@@ -1,12 +1,12 @@
 -- Probing: what a probe has seen on its way, and that a record entered where a probe found a free place is found again.
-use Rattle.std.proofs.Common.{◌≡◌, ℕ, ◌+◌, ◌-◌, ◌*◌, ◌^◌, ◌<◌, ◌≤◌, ◌≢◌, ◌⊎◌, List, length, get_or, take, drop, set, sym, refl, ap, ◌∙◌, subst, inl, inr, arith}
+use Rattle.std.proofs.Common.{◌≡◌, ℕ, ◌+◌, ◌-◌, ◌*◌, ◌<◌, ◌≤◌, ◌≢◌, ◌⊎◌, List, length, get_or, take, drop, set, sym, refl, ap, ◌∙◌, subst, inl, inr, arith}
 use borrow.Rule.Slice.PartMut.{put_mid}
 use Rattle.std.proofs.lemmas.List.{length-append, length-take, length-drop, length-set, get_or-set_same, get_or-set_other, drop-set-lt}
 use Rattle.std.proofs.lemmas.Slice.{take-put_mid_below, drop-put_mid}
 use Rattle.std.proofs.lemmas.Bool.{cases_eq, cases_lt, cases_order}
 use Rattle.lent.specs.declared.shape.Shape.{Shape}
 use Rattle.lent.specs.Records.{rec}
-use Rattle.lent.specs.Table.{homes, places, home, Full, Placed, Probed, Free, Known, Stop, Inserted, SomeFree, FirstFree}
+use Rattle.lent.specs.Table.{homes, places, home, Full, Placed, Probed, Free, Stop, Inserted, SomeFree, FirstFree}
 use Rattle.lent.proofs.RecordLaws.{rec_kept, rec_put, more_words, ends_within}
 
 -- every place up to `at` is full, and what it holds is not the key

@@ -1,5 +1,5 @@
 -- Records of one width, one after the other in a row of words.
-use Rattle.std.specs.Prelude.{◌≡◌, ℕ, ◌*◌, ◌<◌, List, take, drop, ◌≢◌}
+use Rattle.std.specs.Prelude.{ℕ, ◌*◌, ◌<◌, List, take, drop, ◌≢◌}
 
 -- record i of q, of w words
 unfoldable pub rec : List ℕ → ℕ → ℕ → List ℕ

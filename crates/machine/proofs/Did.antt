@@ -1,10 +1,9 @@
 -- An instruction done by the code is the definition's: the model's lists read and written by fields of a number.
-use Rattle.std.proofs.Common.{◌≡◌, ℕ, zero, suc, ◌+◌, ◌%◌, ◌^◌, ◌<◌, ◌≤◌, Bool, true, false, eqb, List, [], ◌∷◌, ◌++◌, length, get_or, take, drop, set, sym, refl, ap, ◌∙◌, add-one, arith}
+use Rattle.std.proofs.Common.{◌≡◌, ℕ, zero, suc, ◌+◌, ◌%◌, ◌<◌, ◌≤◌, Bool, true, false, eqb, List, [], ◌∷◌, ◌++◌, length, get_or, set, sym, refl, ap, ◌∙◌, add-one, arith}
 use mathlib.Core.Option.{some, none}
 use lib.Bits.{bit_and}
 use Rattle.std.proofs.lemmas.Nat.{and_mask}
 use Rattle.lent.specs.Nibbles.{nibbles}
-use Rattle.lent.proofs.Fields.{nibble_small}
 use Rattle.model.specs.Code.{opt, nth, put, pick, adds, loads, stores, fence}
 use Rattle.model.specs.Machine.{At, Wait, done, newest, reg, at_mem, empty, does}
 use Rattle.machine.specs.declared.stores.Store.{Store}

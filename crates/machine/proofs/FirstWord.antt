@@ -1,5 +1,5 @@
 -- What the first word of a thread says of the thread in a state: which instruction is next, and whether a store waits.
-use Rattle.std.proofs.Common.{◌≡◌, ℕ, suc, ◌+◌, ◌*◌, ◌/◌, ◌%◌, ◌≤◌, eqb, List, [], ◌∷◌, length, get_or, sym, refl, ap, ◌∙◌, subst, arith}
+use Rattle.std.proofs.Common.{◌≡◌, ℕ, suc, ◌+◌, ◌*◌, ◌/◌, ◌%◌, ◌≤◌, eqb, List, [], ◌∷◌, length, get_or, sym, refl, ◌∙◌, subst, arith}
 use mathlib.Core.Option.{some}
 use Rattle.model.specs.Code.{nth}
 use Rattle.model.specs.Machine.{Wait, At, St, empty}

@@ -1,12 +1,12 @@
 -- A move on words is the definition's: what the threads read and did is what the definition says of the state.
-use Rattle.std.proofs.Common.{◌≡◌, ℕ, zero, suc, ◌+◌, ◌*◌, ◌^◌, ◌<◌, ◌≤◌, List, [], ◌∷◌, length, get_or, set, sym, refl, ap, ◌∙◌, subst, arith}
+use Rattle.std.proofs.Common.{◌≡◌, ℕ, ◌^◌, ◌<◌, List, [], ◌∷◌, length, get_or, set, sym, ap, ◌∙◌, subst, arith}
 use mathlib.Core.Option.{Option, some, none}
 use Rattle.std.proofs.lemmas.List.{length-set}
-use Rattle.lent.specs.Nibbles.{nibbles, number, AllBelow}
+use Rattle.lent.specs.Nibbles.{nibbles, number}
 use Rattle.lent.proofs.Fields.{nibbles_number, number_nibbles, nibbles_below, length_nibbles}
 use Rattle.model.specs.Code.{opt, nth, put, I, Prog}
 use Rattle.model.specs.Machine.{Wait, At, St, does, instr, move, next, out, with_thread, flushed}
-use Rattle.machine.specs.Packed.{pack, pack_ts, Within, Packs}
+use Rattle.machine.specs.Packed.{pack, pack_ts, Packs}
 use Rattle.machine.specs.Post.{Holds}
 use Rattle.machine.proofs.Did.{put_set}
 

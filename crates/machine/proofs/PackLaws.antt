@@ -1,14 +1,14 @@
 -- States as words and back: a number by its fields, a row by two numbers, a thread by three.
-use Rattle.std.proofs.Common.{◌≡◌, ℕ, zero, suc, ◌+◌, ◌-◌, ◌*◌, ◌/◌, ◌%◌, ◌^◌, ◌<◌, ◌≤◌, List, [], ◌∷◌, ◌++◌, map, length, get_or, take, drop, set, sym, refl, ap, ◌∙◌, subst, mul-le-mul_left, pow-suc, add-one, arith}
+use Rattle.std.proofs.Common.{◌≡◌, ℕ, zero, suc, ◌+◌, ◌*◌, ◌/◌, ◌%◌, ◌^◌, ◌<◌, ◌≤◌, List, [], ◌∷◌, ◌++◌, map, length, get_or, take, drop, set, sym, refl, ap, ◌∙◌, mul-le-mul_left, add-one, arith}
 use lib.Bits.{bit_and, bit_or, or_shifted_r}
-use Rattle.std.proofs.lemmas.Nat.{pow_pos, pow-add, and_mask, shl_whole}
+use Rattle.std.proofs.lemmas.Nat.{pow-add, and_mask, shl_whole}
 use Rattle.std.proofs.lemmas.List.{length-drop, length-take-le, length-map, map_push}
 use Rattle.lent.specs.Nibbles.{nibbles, number, AllBelow}
-use Rattle.model.specs.Machine.{Wait, At, St}
+use Rattle.model.specs.Machine.{Wait, At}
 use Rattle.machine.specs.declared.stores.Store.{Store}
-use Rattle.machine.specs.Stores.{wait, row, AllSmall}
-use Rattle.lent.proofs.Fields.{nibbles_add, nibbles_number, number_below, number_nibbles, length_nibbles, nibbles_below}
-use Rattle.machine.specs.Packed.{values, places, pairs, first_word, pack_at, unpack_at, WithinAt, PacksAt}
+use Rattle.machine.specs.Stores.{wait, row}
+use Rattle.lent.proofs.Fields.{nibbles_add, nibbles_number, number_below, number_nibbles}
+use Rattle.machine.specs.Packed.{values, places, pairs, first_word, unpack_at, PacksAt}
 use Rattle.machine.proofs.RowLaws.{row_last, row_pushed}
 
 -- one more store read off the two words

@@ -1,5 +1,5 @@
 -- Every state that a run of a program within the limits comes to fits its words: each move keeps it.
-use Rattle.std.proofs.Common.{◌≡◌, ℕ, zero, suc, ◌+◌, ◌%◌, ◌<◌, ◌≤◌, Bool, true, false, ◌&&◌, T, eqb, ltb, leb, List, [], ◌∷◌, ◌++◌, map, length, sym, refl, ap, ◌∙◌, subst, arith, ltb→lt, leb→le, length-append}
+use Rattle.std.proofs.Common.{◌≡◌, ℕ, zero, suc, ◌<◌, ◌≤◌, Bool, true, false, ◌&&◌, T, eqb, ltb, leb, List, [], ◌∷◌, ◌++◌, map, length, sym, refl, ap, ◌∙◌, subst, arith, ltb→lt, leb→le, length-append}
 use mathlib.Core.Option.{some}
 use Rattle.lent.specs.Nibbles.{AllBelow}
 use Rattle.model.specs.Code.{pick, opt, nth, put, I, sets, adds, loads, stores, fence, Thread, Prog, ok_i, ok_t, ok_ts, ok}
@@ -7,7 +7,7 @@ use Rattle.model.specs.Machine.{Wait, At, St, Move, next, out, newest, empty, do
 use Rattle.model.proofs.Tools.{none_some, some_is, pick_some, nth_below, length_put, next_of, out_of, moves_keep}
 use Rattle.program.proofs.Rows.{and_left, and_right}
 use Rattle.program.proofs.Lookup.{ok_nth}
-use Rattle.machine.specs.Packed.{values, places, WithinAt, WithinTs, Within}
+use Rattle.machine.specs.Packed.{values, places, WithinAt, Within}
 use Rattle.machine.proofs.StateLaws.{within_nth, within_put}
 use Rattle.machine.proofs.Unpacking.{zeros_below, within_starts}
 

@@ -1,15 +1,15 @@
 -- The words of a state: those of its n-th thread stand from 1 + 3 * n on, and a thread put in changes just these.
-use Rattle.std.proofs.Common.{◌≡◌, ℕ, zero, suc, ◌+◌, ◌*◌, ◌<◌, ◌≤◌, List, [], ◌∷◌, ◌++◌, map, length, get_or, set, sym, refl, ap, ◌∙◌, subst, arith}
-use mathlib.Core.Option.{Option, some, none}
-use Rattle.lent.specs.Nibbles.{nibbles, number, AllBelow}
+use Rattle.std.proofs.Common.{◌≡◌, ℕ, zero, suc, ◌+◌, ◌*◌, ◌<◌, List, [], ◌∷◌, ◌++◌, map, length, get_or, set, sym, refl, ap, ◌∙◌, subst, arith}
+use mathlib.Core.Option.{some}
+use Rattle.lent.specs.Nibbles.{number, AllBelow}
 use Rattle.lent.proofs.Fields.{nibbles_below, length_nibbles}
 use Rattle.model.specs.Code.{nth, put}
 use Rattle.model.specs.Machine.{Wait, At, St, with_thread}
 use Rattle.machine.specs.declared.stores.Store.{Store}
 use Rattle.machine.specs.declared.threads.ThreadState.{ThreadState}
-use Rattle.machine.specs.Stores.{wait, row, AllSmall}
-use Rattle.machine.specs.Meaning.{at, waits}
-use Rattle.machine.specs.Packed.{values, places, pack_at, pack_ts, pack, unpack_at, WithinAt, WithinTs, Within, PacksAt, Packs}
+use Rattle.machine.specs.Stores.{wait, row}
+use Rattle.machine.specs.Meaning.{at}
+use Rattle.machine.specs.Packed.{pack_at, pack_ts, pack, unpack_at, WithinAt, WithinTs, PacksAt, Packs}
 use Rattle.machine.proofs.PackLaws.{unpacked, length_row}
 
 -- the words of the n-th thread, from k on

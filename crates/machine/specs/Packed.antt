@@ -1,7 +1,7 @@
 -- A state as words: memory as eight 4-bit fields, then for each thread three words: its registers with which
 -- instruction is next and how many stores wait, the numbers of the stores that wait, and their places, the oldest
 -- lowest. A store that has gone leaves no trace, so equal states are equal words.
-use Rattle.std.specs.Prelude.{◌≡◌, ℕ, zero, suc, ◌+◌, ◌*◌, ◌/◌, ◌%◌, ◌<◌, ◌≤◌, List, [], ◌∷◌, ◌++◌, map, length}
+use Rattle.std.specs.Prelude.{◌≡◌, ℕ, zero, suc, ◌+◌, ◌*◌, ◌/◌, ◌%◌, ◌≤◌, List, [], ◌∷◌, ◌++◌, map, length}
 use Rattle.lent.specs.Nibbles.{nibbles, number, AllBelow}
 use Rattle.model.specs.Machine.{Wait, At, St}
 

@@ -1,14 +1,11 @@
 -- What a move of a thread promises: the definition's, where it can be made and where it can't.
-use Rattle.std.specs.Prelude.{◌≡◌, ℕ, ◌+◌, ◌<◌, Bool, true, false, List, [], ◌∷◌, length, Some, None, Option}
+use Rattle.std.specs.Prelude.{◌≡◌, ℕ, Bool, true, false, List, length, Some, None, Option}
 use Rattle.std.proofs.Math.Option as M
 use Rattle.std.proofs.Math.Option.{some, none}
 use Rattle.model.specs.Code.{I, Prog}
-use Rattle.model.specs.Machine.{At, Wait, St, does}
-use Rattle.machine.specs.declared.stores.Store.{Store}
-use Rattle.machine.specs.declared.rows.Row.{Row}
+use Rattle.model.specs.Machine.{At, St, does}
 use Rattle.machine.specs.declared.threads.ThreadState.{ThreadState}
-use Rattle.machine.specs.Stores.{wait}
-use Rattle.machine.specs.Meaning.{at, waits}
+use Rattle.machine.specs.Meaning.{at}
 use Rattle.machine.specs.Packed.{Packs}
 
 -- the instruction i, done by a thread that stands at a where memory is m

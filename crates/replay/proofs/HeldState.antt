@@ -1,5 +1,5 @@
 -- Words hold one state at most, and in one way, so that a state that is known to be there can be had.
-use Rattle.std.proofs.Common.{◌≡◌, ℕ, ◌+◌, ◌*◌, ◌<◌, List, [], ◌∷◌, length, refl}
+use Rattle.std.proofs.Common.{◌≡◌, ℕ, List, [], ◌∷◌, length, refl}
 use mathlib.Core.HLevel.{×_prop, is_prop→PathP, hedberg}
 use mathlib.Core.Logic.{∥∥₁_elim}
 use mathlib.Core.List.{is_set}

@@ -1,11 +1,11 @@
 -- Runs that go on by one more move, and moves by the words that tell them.
-use Rattle.std.proofs.Common.{◌≡◌, ℕ, ◌+◌, ◌-◌, ◌*◌, ◌<◌, ◌≤◌, Bool, true, false, List, [], ◌∷◌, ◌++◌, map, length, get_or, take, drop, replicate, sym, refl, ap, ◌∙◌, subst, arith}
+use Rattle.std.proofs.Common.{◌≡◌, ℕ, ◌+◌, ◌-◌, ◌*◌, ◌<◌, ◌≤◌, Bool, true, false, List, [], ◌∷◌, ◌++◌, length, get_or, take, drop, replicate, sym, refl, ap, ◌∙◌, subst, arith}
 use mathlib.Core.Option.{Option, some, none}
 use borrow.Rule.Slice.PartMut.{mid_of, put_mid}
 use Rattle.std.proofs.lemmas.Bool.{lt-ltb, le-ltb}
 use Rattle.std.proofs.lemmas.List.{take-replicate, take-append-drop, map-append, map_more}
 use Rattle.model.specs.Code.{pick, opt, nth, Prog}
-use Rattle.model.specs.Machine.{At, St, Move, next, out, move, moves, begin}
+use Rattle.model.specs.Machine.{St, Move, next, out, move, moves, begin}
 use Rattle.model.proofs.Levels.{run_more}
 use Rattle.model.proofs.Tools.{false_true, none_some, some_is, opt_some, opt_is}
 use Rattle.program.proofs.Lookup.{nth_past}

@@ -1,6 +1,5 @@
 -- What is promised of a run.
 use Rattle.std.specs.Prelude.{◌≡◌, ℕ, ◌+◌, ◌*◌, List, take, Some, None, Option}
-use Rattle.std.proofs.Math.Option as M
 use Rattle.std.proofs.Math.Option.{some, none}
 use Rattle.model.specs.Code.{Prog, nth}
 use Rattle.model.specs.Machine.{St, Move, moves, begin}

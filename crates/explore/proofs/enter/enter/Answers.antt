@@ -1,4 +1,4 @@
-use Rattle.std.proofs.Common.{◌+◌, ◌*◌, ◌≤◌, mul-le-mul_right, arith}
+use Rattle.std.proofs.Common.{◌+◌, ◌≤◌, mul-le-mul_right, arith}
 use Rattle.explore.proofs.enter.enter.Goals as goal
 
 pub insert-requires : goal.insert-requires

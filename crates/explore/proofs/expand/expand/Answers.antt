@@ -1,7 +1,7 @@
-use Rattle.std.proofs.Common.{◌≡◌, ℕ, ◌+◌, ◌*◌, ◌<◌, ◌≤◌, length, sym, ap, ◌∙◌, subst, arith}
+use Rattle.std.proofs.Common.{◌≡◌, ℕ, ◌+◌, length, ap, subst, arith}
 use Rattle.program.specs.Meaning.{program}
 use Rattle.program.proofs.WriteWords.{length_program}
-use Rattle.explore.specs.Found.{width, moves_of}
+use Rattle.explore.specs.Found.{moves_of}
 use Rattle.explore.specs.Post.{Going}
 use Rattle.explore.proofs.expand.expand.Goals as goal
 

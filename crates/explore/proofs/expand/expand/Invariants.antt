@@ -1,5 +1,5 @@
 -- The moves before m are done, and at most one state came by each.
-use Rattle.std.proofs.Common.{◌≡◌, ◌+◌, ◌≤◌}
+use Rattle.std.proofs.Common.{◌+◌, ◌≤◌}
 use Rattle.program.specs.Meaning.{program}
 use Rattle.explore.specs.Post.{Going}
 use Rattle.explore.proofs.expand.expand.Given as goal

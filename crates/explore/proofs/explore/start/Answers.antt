@@ -1,4 +1,4 @@
-use Rattle.std.proofs.Common.{◌≡◌, ℕ, ◌+◌, ◌*◌, ◌≤◌, length, take, replicate, sym, ap, ◌∙◌, subst, arith}
+use Rattle.std.proofs.Common.{◌≡◌, ℕ, ◌+◌, ◌*◌, length, take, replicate, sym, ap, subst, arith}
 use Rattle.program.specs.Meaning.{program}
 use Rattle.program.proofs.WriteWords.{length_program}
 use Rattle.explore.specs.Found.{width}

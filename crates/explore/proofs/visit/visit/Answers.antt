@@ -1,8 +1,8 @@
-use Rattle.std.proofs.Common.{◌≡◌, ℕ, ◌+◌, ◌<◌, true, false, List, length, set, Some, sym, ap, ◌∙◌, subst}
+use Rattle.std.proofs.Common.{ℕ, ◌+◌, ◌<◌, true, false, List, length, set, Some, sym, ◌∙◌, subst}
 use Rattle.program.specs.Meaning.{program}
 use Rattle.machine.specs.Post.{Holds, Stepped}
 use Rattle.model.specs.Machine.{move}
-use Rattle.explore.specs.Found.{width, moves_of, move_of}
+use Rattle.explore.specs.Found.{width, move_of}
 use Rattle.explore.specs.Post.{Visited}
 use Rattle.explore.proofs.Edges.{holds, no_edge, no_room, an_edge, part_is, part_length}
 use Rattle.explore.proofs.visit.visit.Goals as goal

@@ -1,4 +1,4 @@
-use Rattle.std.proofs.Common.{◌≡◌, ℕ, ◌+◌, ◌-◌, ◌<◌, ◌≤◌, take, Some, None, sym, ◌∙◌, subst, arith}
+use Rattle.std.proofs.Common.{◌≡◌, ℕ, take, Some, None, subst, arith}
 use lib.Bits.{bit_and}
 use Rattle.hitting.specs.Post.{NextOrNone}
 use Rattle.program.specs.Meaning.{program}

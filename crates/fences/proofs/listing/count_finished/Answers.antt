@@ -1,4 +1,4 @@
-use Rattle.std.proofs.Common.{◌≡◌, ℕ, ◌+◌, ◌<◌, ◌≤◌, length, sym, ◌∙◌, arith}
+use Rattle.std.proofs.Common.{length, sym, arith}
 use Rattle.program.specs.Meaning.{program}
 use Rattle.explore.specs.Found.{state}
 use Rattle.fences.specs.Rows.{rows_from}

@@ -1,4 +1,4 @@
-use Rattle.std.proofs.Common.{◌≡◌, ℕ, ◌+◌, ◌*◌, ◌≤◌, List, length, sym, refl, ◌∙◌, arith}
+use Rattle.std.proofs.Common.{length, refl, arith}
 use Rattle.program.specs.Meaning.{program}
 use Rattle.fences.specs.Rows.{rows_from}
 use Rattle.fences.proofs.AllOutcomes.{lists}

@@ -1,4 +1,4 @@
-use Rattle.std.proofs.Common.{◌≡◌, ℕ, ◌+◌, ◌-◌, ◌<◌, ◌≤◌, length, sym, ap, ◌∙◌, arith, length-append}
+use Rattle.std.proofs.Common.{◌+◌, ◌-◌, length, ap, ◌∙◌, arith, length-append}
 use Rattle.program.specs.Meaning.{program}
 use Rattle.fences.specs.Listing.{text}
 use Rattle.fences.specs.Rows.{one_row, rows_from}

@@ -1,4 +1,4 @@
-use Rattle.std.proofs.Common.{◌∙◌, arith}
+use Rattle.std.proofs.Common.{arith}
 use Rattle.lent.proofs.Fields.{read_field, nibble_small}
 use Rattle.lent.proofs.nibbles.nibble.Goals as goal
 

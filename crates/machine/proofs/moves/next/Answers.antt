@@ -1,11 +1,10 @@
-use Rattle.std.proofs.Common.{◌≡◌, ℕ, List, get_or, sym, ap, ◌∙◌, subst, arith}
-use Rattle.lent.specs.Nibbles.{nibbles}
-use Rattle.model.specs.Machine.{St, does, with_thread}
+use Rattle.std.proofs.Common.{ℕ, List, sym, ap, ◌∙◌, subst, arith}
+use Rattle.model.specs.Machine.{does, with_thread}
 use Rattle.program.specs.Instructions.{instruction}
 use Rattle.program.specs.Meaning.{program}
 use Rattle.machine.specs.Meaning.{at}
 use Rattle.machine.specs.Packed.{Packs}
-use Rattle.machine.proofs.MoveLaws.{held_thread, memory_is, next_none, next_some, next_held, length_put}
+use Rattle.machine.proofs.MoveLaws.{held_thread, memory_is, next_none, next_some, length_put}
 use Rattle.machine.proofs.moves.next.Goals as goal
 
 pub thread_of-thread-requires : goal.thread_of-thread-requires

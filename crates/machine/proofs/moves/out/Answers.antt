@@ -1,4 +1,4 @@
-use Rattle.std.proofs.Common.{◌≡◌, ℕ, List, [], sym, ap, ◌∙◌, subst, arith}
+use Rattle.std.proofs.Common.{ℕ, List, sym, subst, arith}
 use Rattle.lent.specs.Nibbles.{nibbles}
 use Rattle.model.specs.Code.{put}
 use Rattle.model.specs.Machine.{At}

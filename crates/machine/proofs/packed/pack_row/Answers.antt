@@ -1,5 +1,4 @@
-use Rattle.std.proofs.Common.{◌≡◌, ℕ, ◌+◌, ◌*◌, ◌%◌, ◌^◌, ◌<◌, ◌≤◌, length, sym, refl, ◌∙◌, arith}
-use lib.Bits.{bit_or}
+use Rattle.std.proofs.Common.{ℕ, ◌+◌, ◌<◌, length, refl, arith}
 use Rattle.lent.specs.Nibbles.{number}
 use Rattle.model.specs.Machine.{Wait}
 use Rattle.machine.proofs.PackLaws.{packed_more, shifted_or, pushed_below}

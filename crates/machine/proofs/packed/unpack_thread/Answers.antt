@@ -1,4 +1,4 @@
-use Rattle.std.proofs.Common.{◌≡◌, ◌+◌, ◌/◌, ◌%◌, ◌≤◌, sym, ap, ◌∙◌, arith}
+use Rattle.std.proofs.Common.{◌/◌, arith}
 use Rattle.std.proofs.lemmas.Nat.{and_mask}
 use Rattle.machine.proofs.PackLaws.{word_parts, low_registers, same_at}
 use Rattle.machine.proofs.packed.unpack_thread.Goals as goal

@@ -1,4 +1,4 @@
-use Rattle.std.proofs.Common.{◌≡◌, ◌<◌, [], ◌∷◌, ◌++◌, length, vec_items, sym, ap, ◌∙◌, append_assoc, arith}
+use Rattle.std.proofs.Common.{◌≡◌, ◌<◌, [], ◌∷◌, ◌++◌, length, vec_items, sym, ap, ◌∙◌, arith}
 use Rattle.model.specs.Code.{row_ts}
 use Rattle.program.specs.Meaning.{threads, program}
 use Rattle.program.proofs.WriteWords.{thread_added, length_program, program_ok}

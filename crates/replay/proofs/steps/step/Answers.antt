@@ -1,4 +1,4 @@
-use Rattle.std.proofs.Common.{◌≡◌, ℕ, ◌-◌, ◌<◌, ◌≤◌, false, length, sym, ◌∙◌, arith}
+use Rattle.std.proofs.Common.{◌-◌, ◌<◌, ◌≤◌, false, length, arith}
 use Rattle.model.specs.Machine.{next, out}
 use Rattle.program.specs.Meaning.{program}
 use Rattle.program.proofs.WriteWords.{length_program}

@@ -1,4 +1,4 @@
-use Rattle.std.proofs.Common.{◌≡◌, sym, ◌∙◌, subst}
+use Rattle.std.proofs.Common.{sym}
 use Rattle.text.specs.Meaning.{token, places}
 use Rattle.text.proofs.Forms.{is_sum, is_load, is_store, is_none}
 use Rattle.text.proofs.cells.of_five.Goals as goal

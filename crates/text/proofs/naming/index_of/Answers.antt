@@ -1,7 +1,6 @@
-use Rattle.std.proofs.Common.{◌≡◌, ℕ, ◌<◌, ◌≤◌, true, false, [], length, get_or, string_bytes, sym, ap, ◌∙◌, subst, arith}
+use Rattle.std.proofs.Common.{string_bytes, ◌∙◌, arith}
 use Rattle.std.proofs.lemmas.Slice.Eq.{slice_eq-Decides}
 use Rattle.std.proofs.lemmas.List.{length-map}
-use Rattle.text.specs.Bytes.{same}
 use Rattle.text.specs.Meaning.{words}
 use Rattle.text.proofs.Lookup.{looked, upto_none, upto_more, upto_found, upto_all}
 use Rattle.text.proofs.naming.index_of.Goals as goal

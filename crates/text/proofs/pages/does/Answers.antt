@@ -1,10 +1,9 @@
-use Rattle.std.proofs.Common.{◌≡◌, ℕ, ◌<◌, ◌≤◌, List, map, length, vec_items, sym, ap, ◌∙◌, arith}
+use Rattle.std.proofs.Common.{map, length, vec_items, sym, ap, ◌∙◌, arith}
 use mathlib.Core.Option.{some}
 use Rattle.std.proofs.lemmas.List.{length-map, map_push}
 use Rattle.std.proofs.lemmas.Bool.{eqb-true, eqb-false}
 use Rattle.std.proofs.lemmas.Result.{err_from_is_err_and}
 use Rattle.program.specs.Instructions.{instruction}
-use Rattle.text.specs.Grammar.{Column}
 use Rattle.text.specs.Meaning.{token, places, column}
 use Rattle.text.proofs.Filling.{no_tokens, too_many, no_instruction, one_more}
 use Rattle.text.proofs.pages.does.Goals as goal

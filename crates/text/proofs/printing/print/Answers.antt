@@ -1,4 +1,4 @@
-use Rattle.std.proofs.Common.{◌≡◌, ℕ, List, [], ◌∷◌, ◌++◌, map, string_bytes, sym, ap, ◌∙◌, append_assoc}
+use Rattle.std.proofs.Common.{◌≡◌, ℕ, List, [], ◌∷◌, ◌++◌, map, string_bytes, ap, ◌∙◌, append_assoc}
 use Rattle.text.specs.declared.source.Thread.{Thread}
 use Rattle.text.specs.Grammar.{Column, program, reads}
 use Rattle.text.specs.Meaning.{words, column, listing}

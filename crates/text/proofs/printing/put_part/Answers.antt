@@ -1,8 +1,8 @@
-use Rattle.std.proofs.Common.{◌≡◌, ℕ, ◌-◌, Bool, ◌&&◌, List, [], ◌∷◌, ◌++◌, length, string_bytes, sym, ap, ◌∙◌, append_assoc}
+use Rattle.std.proofs.Common.{◌≡◌, ℕ, ◌-◌, Bool, ◌&&◌, List, ◌++◌, length, string_bytes, ap, ◌∙◌, append_assoc}
 use Rattle.text.specs.Bytes.{empty}
 use Rattle.text.specs.Meaning.{words, column}
 use Rattle.text.specs.Shows.{show_cell, width}
-use Rattle.text.specs.Parts.{gap, behind, part}
+use Rattle.text.specs.Parts.{gap, behind}
 use Rattle.text.proofs.printing.put_part.Goals as goal
 
 pub returns : goal.returns

@@ -1,9 +1,9 @@
-use Rattle.std.proofs.Common.{◌≡◌, ℕ, ◌+◌, ◌<◌, ◌≤◌, max, List, map, length, get_or, drop, vec_items, string_bytes, sym, ap, ◌∙◌, arith}
+use Rattle.std.proofs.Common.{◌≡◌, ℕ, ◌+◌, ◌<◌, List, map, length, get_or, drop, vec_items, string_bytes, sym, ap, ◌∙◌, arith}
 use Rattle.std.proofs.lemmas.List.{length-map, get_or-map}
 use Rattle.model.specs.Code.{I, fence}
 use Rattle.program.specs.declared.instructions.Instruction.{Instruction}
 use Rattle.program.specs.Instructions.{instruction}
-use Rattle.text.specs.Meaning.{words, column}
+use Rattle.text.specs.Meaning.{words}
 use Rattle.text.specs.Shows.{show_i, widest}
 use Rattle.text.proofs.Printed.{wider, widest_all}
 use Rattle.text.proofs.printing.width_of.Goals as goal

@@ -1,7 +1,7 @@
-use Rattle.std.proofs.Common.{◌≡◌, true, false, List, map, vec_items, sym, ap, ◌∙◌}
-use mathlib.Core.Option.{Option, some, none}
+use Rattle.std.proofs.Common.{◌≡◌, true, false, map, vec_items, sym, ◌∙◌}
+use mathlib.Core.Option.{some, none}
 use Rattle.text.specs.Bytes.{empty, pieces}
-use Rattle.text.specs.Grammar.{Page, Listing, each, line, blank_page, whole}
+use Rattle.text.specs.Grammar.{each, line, blank_page, whole}
 use Rattle.text.specs.Meaning.{words, column, page}
 use Rattle.text.proofs.Lookup.{empty_map}
 use Rattle.text.proofs.Picks.{pick_true, pick_false, opt_is}

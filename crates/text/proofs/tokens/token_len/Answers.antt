@@ -1,6 +1,5 @@
-use Rattle.std.proofs.Common.{◌≡◌, ℕ, ◌<◌, length, sym, ◌∙◌, subst, arith}
+use Rattle.std.proofs.Common.{sym, subst, arith}
 use Rattle.std.proofs.lemmas.Bool.{eqb-true, eqb-false}
-use Rattle.text.specs.Bytes.{run, letter}
 use Rattle.text.specs.Kinds.{FirstToken}
 use Rattle.text.proofs.Scanning.{first_word, first_sign, first_none, first_empty}
 use Rattle.text.proofs.tokens.token_len.Goals as goal

@@ -1,5 +1,4 @@
 use Rattle.std.proofs.Common.{get_or, arith}
-use Rattle.program.specs.declared.instructions.Place.{Place}
 use Rattle.machine.specs.declared.stores.Store.{Store}
 use Rattle.machine.specs.Stores.{wait}
 use Rattle.machine.proofs.RowLaws.{row_popped}

@@ -1,4 +1,4 @@
-use Rattle.std.proofs.Common.{◌+◌, ◌<◌, ◌≤◌, length, sym, ap, ◌∙◌, arith, rules}
+use Rattle.std.proofs.Common.{ap, ◌∙◌, arith, rules}
 use Rattle.lent.specs.Nibbles.{nibbles}
 use Rattle.model.specs.Machine.{does}
 use Rattle.program.specs.declared.instructions.Instruction.{Instruction}

@@ -1,5 +1,4 @@
 use Rattle.std.proofs.Common.{◌^◌, ◌<◌, refl, arith}
-use Rattle.lent.specs.Nibbles.{nibbles}
 use Rattle.machine.specs.Meaning.{at}
 use Rattle.machine.proofs.Did.{done_is, field_written}
 use Rattle.machine.proofs.threads.ThreadState.with_register.Goals as goal

@@ -1,4 +1,4 @@
-use Rattle.std.proofs.Common.{◌≡◌, [], refl}
+use Rattle.std.proofs.Common.{[], refl}
 use Rattle.program.specs.Meaning.{program}
 use Rattle.program.proofs.WriteWords.{length_program}
 use Rattle.replay.proofs.RunLaws.{begins}

@@ -1,4 +1,4 @@
-use Rattle.std.proofs.Common.{◌≡◌, ℕ, ◌+◌, ◌*◌, List, sym, ap, ◌∙◌, subst}
+use Rattle.std.proofs.Common.{ℕ, ◌+◌, ◌*◌, List, sym, ap, ◌∙◌, subst}
 use Rattle.machine.specs.Packed.{Packs}
 use Rattle.program.proofs.WriteWords.{length_program}
 use Rattle.replay.proofs.StateWords.{part_is, part_long}

@@ -1,4 +1,4 @@
-use Rattle.std.proofs.Common.{◌≡◌, ◌+◌, ◌*◌, sym, refl, ◌∙◌, subst}
+use Rattle.std.proofs.Common.{◌+◌, ◌*◌, sym, refl, ◌∙◌, subst}
 use mathlib.Core.Logic.{∥∥₁_map}
 use borrow.Rule.Slice.PartMut.{same_len_mid}
 use Rattle.machine.specs.Post.{Holds}

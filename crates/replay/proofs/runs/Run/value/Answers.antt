@@ -1,4 +1,4 @@
-use Rattle.std.proofs.Common.{◌≡◌, ℕ, ◌+◌, ◌*◌, List, sym, subst, arith}
+use Rattle.std.proofs.Common.{ℕ, ◌+◌, ◌*◌, List, sym, subst, arith}
 use Rattle.machine.specs.Packed.{Packs}
 use Rattle.replay.proofs.StateWords.{part_is, part_long, value_past, value_is}
 use Rattle.replay.proofs.runs.Run.value.Goals as goal

@@ -1,9 +1,9 @@
-use Rattle.std.proofs.Common.{◌≡◌, ℕ, ◌<◌, ◌≤◌, List, [], ◌∷◌, ◌++◌, map, length, get_or, vec_items, string_bytes, sym, ap, ◌∙◌, subst, arith}
-use mathlib.Core.Option.{Option, some, none}
+use Rattle.std.proofs.Common.{◌≡◌, List, [], ◌∷◌, ◌++◌, map, length, get_or, vec_items, string_bytes, sym, ap, ◌∙◌, arith}
+use mathlib.Core.Option.{some}
 use Rattle.std.proofs.lemmas.List.{length-map, map_push}
 use Rattle.program.specs.Instructions.{instruction}
 use Rattle.text.specs.declared.tokens.Token.{Token}
-use Rattle.text.specs.Bytes.{Word, tokens}
+use Rattle.text.specs.Bytes.{Word}
 use Rattle.text.specs.Grammar.{Column, names}
 use Rattle.text.specs.Meaning.{token, column, page}
 use Rattle.text.proofs.Few.{of_1}

@@ -1,11 +1,10 @@
-use Rattle.std.proofs.Common.{◌≡◌, ℕ, ◌<◌, ◌≤◌, List, map, length, get_or, set, vec_items, sym, refl, ap, ◌∙◌, arith}
-use mathlib.Core.Option.{Option, some, none}
+use Rattle.std.proofs.Common.{◌≡◌, ℕ, ◌<◌, List, map, length, get_or, vec_items, sym, ap, ◌∙◌, arith}
+use mathlib.Core.Option.{some}
 use Rattle.std.proofs.lemmas.List.{length-map, get_or-map, map-set}
 use Rattle.std.proofs.lemmas.Result.{err_from_is_err_and}
-use Rattle.model.specs.Code.{nth, put}
+use Rattle.model.specs.Code.{nth}
 use Rattle.text.specs.declared.tokens.Token.{Token}
 use Rattle.text.specs.declared.source.Thread.{Thread}
-use Rattle.text.specs.Bytes.{tokens}
 use Rattle.text.specs.Grammar.{Column}
 use Rattle.text.specs.Meaning.{token, places, column, page}
 use Rattle.text.proofs.Filling.{nth_at, put_set, cell_is, cell_not}

@@ -1,4 +1,4 @@
-use Rattle.std.proofs.Common.{◌≡◌, true, false, map, vec_items, sym, ap, ◌∙◌}
+use Rattle.std.proofs.Common.{◌≡◌, true, false, vec_items, sym, ◌∙◌}
 use Rattle.text.specs.Bytes.{empty, pieces}
 use Rattle.text.specs.Grammar.{each, begins, row, content}
 use Rattle.text.specs.Meaning.{column, page}

@@ -1,9 +1,8 @@
-use Rattle.std.proofs.Common.{◌≡◌, ℕ, ◌+◌, ◌-◌, ◌<◌, ◌≤◌, List, length, take, drop, sym, ap, ◌∙◌, arith}
-use mathlib.Core.Option.{none}
+use Rattle.std.proofs.Common.{◌≡◌, ℕ, ◌+◌, ◌-◌, List, length, take, drop, sym, ap, ◌∙◌, arith}
 use Rattle.std.proofs.lemmas.List.{take_rest, length-drop}
 use Rattle.std.proofs.lemmas.Result.{err_from_is_err_and}
 use Rattle.text.specs.Bytes.{pieces}
-use Rattle.text.specs.Grammar.{Page, each, begins}
+use Rattle.text.specs.Grammar.{each, begins}
 use Rattle.text.specs.Meaning.{page}
 use Rattle.text.proofs.Turns.{each_more, each_last, each_none}
 use Rattle.text.proofs.pages.Page.heading.Goals as goal

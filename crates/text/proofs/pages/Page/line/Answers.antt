@@ -1,6 +1,5 @@
-use Rattle.std.proofs.Common.{◌≡◌, ℕ, ◌-◌, ◌≤◌, true, false, List, length, take, sym, ap, ◌∙◌, arith}
-use mathlib.Core.Option.{none}
-use Rattle.text.specs.Bytes.{plain, all, but, run, before, no_cr}
+use Rattle.std.proofs.Common.{◌≡◌, ℕ, ◌-◌, true, List, take, sym, ap, ◌∙◌, arith}
+use Rattle.text.specs.Bytes.{plain, all, before, no_cr}
 use Rattle.text.specs.Grammar.{content, line}
 use Rattle.text.specs.Meaning.{page}
 use Rattle.text.proofs.Headings.{all_of, not_all_of}

@@ -1,9 +1,8 @@
-use Rattle.std.proofs.Common.{◌≡◌, ℕ, ◌+◌, ◌-◌, ◌<◌, ◌≤◌, List, map, length, take, drop, vec_items, sym, ap, ◌∙◌, arith}
-use mathlib.Core.Option.{Option, none}
+use Rattle.std.proofs.Common.{◌≡◌, ℕ, ◌+◌, ◌-◌, List, length, take, drop, vec_items, sym, ap, ◌∙◌, arith}
 use Rattle.std.proofs.lemmas.List.{take_rest, length-drop, length-map}
 use Rattle.std.proofs.lemmas.Result.{err_from_is_err_and}
 use Rattle.text.specs.Bytes.{pieces}
-use Rattle.text.specs.Grammar.{Page, row, cell}
+use Rattle.text.specs.Grammar.{row}
 use Rattle.text.specs.Meaning.{page, column}
 use Rattle.text.proofs.Filling.{cell_past}
 use Rattle.text.proofs.Turns.{row_more, row_last, row_none}

@@ -1,4 +1,4 @@
-use Rattle.std.proofs.Common.{◌≡◌, vec_items, string_bytes, sym, ap, ◌∙◌}
+use Rattle.std.proofs.Common.{vec_items, string_bytes, sym, ◌∙◌}
 use Rattle.text.specs.Meaning.{places}
 use Rattle.text.proofs.Picks.{pick_false}
 use Rattle.text.proofs.Lookup.{empty_map}
