@@ -6,6 +6,8 @@ mod at_once;
 #[cfg(test)]
 mod guards;
 #[cfg(test)]
+mod long_rows;
+#[cfg(test)]
 mod moves;
 pub mod play;
 #[cfg(test)]
