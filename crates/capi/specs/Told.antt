@@ -1,15 +1,13 @@
 -- The structs that C gets say what the enums of the calls say.
-use mathlib.Core.Path.{_≡_}
-use mathlib.Core.List.{List}
-use Prim.Native.Nat.{ℕ}
-use Rattle·fences.specs.declared.looking.Looked.{Looked}
-use Rattle·fences.specs.declared.looking.Looked.the-variants as looked
-use Rattle·fences.specs.declared.listing.Listed.{Listed}
-use Rattle·fences.specs.declared.listing.Listed.the-variants as listed
-use Rattle·fences.specs.Answers.{LookedPost}
-use Rattle·fences.specs.Says.{ListedPost}
-use Rattle·capi·specs.declared.FencesLooked.{FencesLooked}
-use Rattle·capi·specs.declared.FencesListed.{FencesListed}
+use Rattle.std.specs.Prelude.{◌≡◌, List, ℕ}
+use Rattle.fences.specs.declared.looking.Looked.{Looked}
+use Rattle.fences.specs.declared.looking.Looked.TheVariants as looked
+use Rattle.fences.specs.declared.listing.Listed.{Listed}
+use Rattle.fences.specs.declared.listing.Listed.TheVariants as listed
+use Rattle.fences.specs.Answers.{LookedPost}
+use Rattle.fences.specs.Says.{ListedPost}
+use Rattle.capi.specs.declared.FencesLooked.{FencesLooked}
+use Rattle.capi.specs.declared.FencesListed.{FencesListed}
 
 -- the kind, and the numbers that come with it; 0 where none does
 abbrev pub looked-as : Looked → FencesLooked
@@ -28,13 +26,13 @@ listed-as listed.NoProgram = record { kind = 4; outcomes = 0; states = 0 }
 listed-as listed.Few = record { kind = 5; outcomes = 0; states = 0 }
 
 -- the answer keeps the promise of 'look'
-pub record LookedC (s : List ℕ) (most w : ℕ) (o o′ : List ℕ) (r : FencesLooked) : Type 0 where
+pub record LookedC (s : List ℕ) (most w : ℕ) (o o' : List ℕ) (r : FencesLooked) : Type 0 where
   pub answer : Looked
-  pub post : LookedPost s most w o o′ answer
+  pub post : LookedPost s most w o o' answer
   pub told : r ≡ looked-as answer
 
 -- the answer keeps the promise of 'outcomes'
-pub record ListedC (s : List ℕ) (most w : ℕ) (o o′ : List ℕ) (r : FencesListed) : Type 0 where
+pub record ListedC (s : List ℕ) (most w : ℕ) (o o' : List ℕ) (r : FencesListed) : Type 0 where
   pub answer : Listed
-  pub post : ListedPost s most w o o′ answer
+  pub post : ListedPost s most w o o' answer
   pub told : r ≡ listed-as answer

@@ -1,11 +1,9 @@
 // The calls for C and Rust, as a static library: include/fences.h declares them. A slice is a pointer and then a length.
-ghost use mathlib.Core.Path.{_≡_};
-ghost use lib.ListN.{length};
-ghost use Rattle·capi·specs.Told.{looked-as, listed-as, LookedC, ListedC};
-use fences::listing::Listed;
-use fences::listing::outcomes;
-use fences::looking::Looked;
-use fences::looking::look;
+ghost use Rattle.std.specs.Prelude.{◌≡◌, length};
+ghost use Rattle.capi.specs.Told.{looked-as, listed-as, LookedC, ListedC};
+
+use fences::listing::{Listed, outcomes};
+use fences::looking::{Looked, look};
 
 // What `look` answers: its kind, and with `fences` how many moves and how many fences are told.
 #[repr(C)]
@@ -26,7 +24,7 @@ pub struct FencesListed {
 }
 
 fn looked(answer: Looked) -> FencesLooked
-    ensures { λ r. ⌜ r ≡ looked-as answer ⌝ }
+    ensures { result ≡ looked-as answer }
 {
     let (kind, moves, fences) = match answer {
         Looked::Plain => (0, 0, 0),
@@ -44,7 +42,7 @@ fn looked(answer: Looked) -> FencesLooked
 }
 
 fn listed(answer: Listed) -> FencesListed
-    ensures { λ r. ⌜ r ≡ listed-as answer ⌝ }
+    ensures { result ≡ listed-as answer }
 {
     let (kind, outcomes, states) = match answer {
         Listed::Outcomes(outcomes, states) => (0, outcomes, states),
@@ -67,7 +65,7 @@ pub extern "C" fn fences_look(
     out: &mut [u32],
     work: &mut [u32],
 ) -> FencesLooked
-    ensures { λ r. ⌜ LookedC (now (words .entry)) most (length (now (work .entry))) (now (out .entry)) (now (out .exit)) r ⌝ }
+    ensures { LookedC words.now most (length work.old) out.old out.new result }
 {
     looked(look(words, most, out, work))
 }
@@ -79,7 +77,7 @@ pub extern "C" fn fences_outcomes(
     out: &mut [u32],
     work: &mut [u32],
 ) -> FencesListed
-    ensures { λ r. ⌜ ListedC (now (words .entry)) most (length (now (work .entry))) (now (out .entry)) (now (out .exit)) r ⌝ }
+    ensures { ListedC words.now most (length work.old) out.old out.new result }
 {
     listed(outcomes(words, most, out, work))
 }

@@ -1,8 +1,5 @@
 // What a program is asked to do by its arguments: `[--help | --to-words | --words] [FILE..]`.
 use crate::troubles::Trouble;
-use crate::troubles::TroubleFromAlloc;
-use crate::troubles::TroubleFromRefused;
-use crate::troubles::TroubleFromWrite;
 use std::env;
 
 #[derive(Clone, Copy)]
@@ -53,7 +50,7 @@ fn add(request: &mut Request, argument: String) -> Result<(), Trouble> {
 }
 
 // What the arguments behind the program's own name ask for.
-pub fn asked(rt: &LibcRuntime) -> Result<Request, Trouble> {
+pub fn asked(rt: &HostRuntime) -> Result<Request, Trouble> {
     let mut request = Request {
         mode: Mode::Answer,
         files: Vec::new(rt.alloc()),

@@ -1,9 +1,7 @@
 // A program with fences put in, as `look` tells them: thread and instruction for each.
 use program::instructions::Instruction;
-use std::alloc::AllocError;
-use std::alloc::Global;
-use text::source::Source;
-use text::source::Thread;
+use std::alloc::{AllocError, Global};
+use text::source::{Source, Thread};
 
 // Whether a fence is told before an instruction, among thread and instruction for each fence.
 fn is_fenced(fences: &[u32], n: u32, at: u32) -> bool {

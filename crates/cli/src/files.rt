@@ -1,16 +1,12 @@
 // Programs in columns, file by file. A file that is refused is said on standard error, and the others are answered.
-use crate::input;
-use crate::numbers;
-use crate::troubles;
 use crate::troubles::Trouble;
-use crate::troubles::TroubleFromAlloc;
-use crate::troubles::TroubleFromWrite;
+use crate::{input, numbers, troubles};
 use text::source::Source;
 use text::words;
 
 // What is printed for a program that was read from `file`.
 pub trait ForSource {
-    fn answer(&mut self, rt: &LibcRuntime, file: &str, source: &Source) -> Result<(), Trouble>;
+    fn answer(&mut self, rt: &HostRuntime, file: &str, source: &Source) -> Result<(), Trouble>;
 }
 
 // What stands above the answer: nothing where there is one file; else the file's name, with an empty line before it
@@ -22,18 +18,18 @@ enum Heading {
     BlankAndName,
 }
 
-fn print_heading(rt: &LibcRuntime, heading: Heading, file: &str) -> Result<(), Trouble> {
+fn print_heading(rt: &HostRuntime, heading: Heading, file: &str) -> Result<(), Trouble> {
     match heading {
         Heading::Nothing => {}
         Heading::Name => rt.println(file)?,
-        Heading::BlankAndName => println!(rt, "\n{file}")?,
+        Heading::BlankAndName => println!(rt; "\n{file}")?,
     }
     Ok(())
 }
 
 // The answer for one file, which is read before anything is printed.
 fn answer_file<A: ForSource>(
-    rt: &LibcRuntime,
+    rt: &HostRuntime,
     answers: &mut A,
     file: Option<&String>,
     heading: Heading,
@@ -46,7 +42,7 @@ fn answer_file<A: ForSource>(
 
 // Answers for several files, each under its name.
 fn answer_several<A: ForSource>(
-    rt: &LibcRuntime,
+    rt: &HostRuntime,
     answers: &mut A,
     files: &[String],
 ) -> Result<(), Trouble> {
@@ -73,7 +69,7 @@ fn answer_several<A: ForSource>(
 
 // Answers for the files, or for standard input where none is named.
 pub fn answer<A: ForSource>(
-    rt: &LibcRuntime,
+    rt: &HostRuntime,
     answers: &mut A,
     files: &[String],
 ) -> Result<(), Trouble> {
@@ -87,8 +83,8 @@ pub fn answer<A: ForSource>(
 #[derive(Drop)]
 pub struct ToWords;
 
-pub impl ForSource for ToWords as ToWordsForSource {
-    fn answer(&mut self, rt: &LibcRuntime, _file: &str, source: &Source) -> Result<(), Trouble> {
+impl ForSource for ToWords {
+    fn answer(&mut self, rt: &HostRuntime, _file: &str, source: &Source) -> Result<(), Trouble> {
         let words = words::to_words(rt.alloc(), source)?;
         rt.println(numbers::line(rt.alloc(), words.as_slice())?)?;
         Ok(())

@@ -1,6 +1,5 @@
 // A program in columns, read from a file or from standard input.
 use crate::troubles::Trouble;
-use crate::troubles::TroubleFromAlloc;
 use std::alloc::Global;
 use std::fs::File;
 use std::io;
@@ -21,7 +20,7 @@ fn bytes_of<R: Read + Drop>(heap: Global, reader: R) -> io::Result<Vec<u8>> {
     Ok(bytes)
 }
 
-fn file_bytes(rt: &LibcRuntime, file: &str) -> io::Result<Vec<u8>> {
+fn file_bytes(rt: &HostRuntime, file: &str) -> io::Result<Vec<u8>> {
     bytes_of(rt.alloc(), File::open(rt, file)?)
 }
 
@@ -37,7 +36,7 @@ pub fn name(file: Option<&String>) -> &str {
 }
 
 // The program in the file, or in standard input where none is named.
-pub fn source(rt: &LibcRuntime, file: Option<&String>) -> Result<Source, Trouble> {
+pub fn source(rt: &HostRuntime, file: Option<&String>) -> Result<Source, Trouble> {
     let read = match file {
         Some(file) => file_bytes(rt, file.as_str()),
         None => bytes_of(rt.alloc(), rt.stdin()),

@@ -1,22 +1,17 @@
 // Programs as words, one to a line of standard input. A line has at most `LONGEST` bytes, so that what is held does not
 // grow with the input.
-use crate::input;
-use crate::numbers;
 use crate::troubles::Trouble;
-use crate::troubles::TroubleFromAlloc;
-use crate::troubles::TroubleFromRefused;
+use crate::{input, numbers};
 use std::alloc::Global;
 use std::io;
-use std::io::BufRead;
-use std::io::BufReader;
-use std::io::Stdin;
+use std::io::{BufRead, BufReader, Stdin};
 
 // More than any program's words take, with a blank between each two.
 const LONGEST: usize = 4096;
 
 // What is printed for a program as words.
 pub trait ForWords {
-    fn answer(&mut self, rt: &LibcRuntime, words: &[u32]) -> Result<(), Trouble>;
+    fn answer(&mut self, rt: &HostRuntime, words: &[u32]) -> Result<(), Trouble>;
 }
 
 #[derive(Drop)]
@@ -27,7 +22,7 @@ struct Lines {
 }
 
 impl Lines {
-    fn new(rt: &LibcRuntime) -> Lines {
+    fn new(rt: &HostRuntime) -> Lines {
         Lines {
             reader: BufReader::new(rt.stdin()),
             number: 0,
@@ -65,7 +60,7 @@ impl Lines {
 }
 
 // Answers for each line in turn, up to the end or to the first line that is refused.
-pub fn answer<A: ForWords>(rt: &LibcRuntime, answers: &mut A) -> Result<(), Trouble> {
+pub fn answer<A: ForWords>(rt: &HostRuntime, answers: &mut A) -> Result<(), Trouble> {
     let heap = rt.alloc();
     let mut lines = Lines::new(rt);
     for _ in 0..u64::MAX {

@@ -1,9 +1,6 @@
 // Words as numbers in a line of text.
 use crate::troubles::Trouble;
-use crate::troubles::TroubleFromAlloc;
-use crate::troubles::TroubleFromRefused;
-use std::alloc::AllocError;
-use std::alloc::Global;
+use std::alloc::{AllocError, Global};
 
 // The numbers of a line with this number, which blanks part.
 pub fn parse(heap: Global, line: u64, bytes: &[u8]) -> Result<Vec<u32>, Trouble> {

@@ -1,11 +1,8 @@
 // What is shown of an outcome: the registers that a program uses and the places that it names, under its own names.
-use program::instructions::Instruction;
-use program::instructions::Place;
-use std::alloc::AllocError;
-use std::alloc::Global;
+use program::instructions::{Instruction, Place};
+use std::alloc::{AllocError, Global};
 use text::printing;
-use text::source::Source;
-use text::source::Thread;
+use text::source::{Source, Thread};
 
 const REGISTERS: u32 = 4;
 
@@ -66,7 +63,7 @@ fn push_registers(
     for r in 0..REGISTERS {
         if thread_uses(thread, r) {
             let name = thread.name.as_str();
-            let title = format!(heap, "{name}.r{r}")?;
+            let title = format!(in heap; "{name}.r{r}")?;
             all.push(Shown {
                 title,
                 at: at.saturating_add(r as usize),
@@ -86,7 +83,7 @@ fn push_places(
     for x in 0..PLACES {
         if program_names(source, x) {
             let name = printing::place(heap, source.places.as_slice(), Place(x))?;
-            let title = format!(heap, "[{name}]")?;
+            let title = format!(in heap; "[{name}]")?;
             all.push(Shown {
                 title,
                 at: at.saturating_add(x as usize),

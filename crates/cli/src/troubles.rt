@@ -1,11 +1,7 @@
 // Why a program gives no answer. It says so on standard error, and ends with status 1.
-use std::alloc::AllocError;
-use std::alloc::Global;
-use std::alloc::Refused;
-use std::fmt;
-use std::io;
+use std::alloc::{AllocError, AllocFailed, Global};
+use std::{fmt, io};
 use text::faults::Fault;
-use text::faults::FaultDisplay;
 
 #[derive(Drop)]
 pub enum Trouble {
@@ -31,26 +27,26 @@ pub enum Trouble {
     Unanswered { file: String, why: &'static str },
 }
 
-pub impl From<AllocError> for Trouble as TroubleFromAlloc {
+impl From<AllocError> for Trouble {
     fn from(_e: AllocError) -> Trouble {
         Trouble::Memory
     }
 }
 
-pub impl<T: Drop> From<Refused<T>> for Trouble as TroubleFromRefused {
-    fn from(_e: Refused<T>) -> Trouble {
+impl<T: Drop> From<AllocFailed<T>> for Trouble {
+    fn from(_e: AllocFailed<T>) -> Trouble {
         Trouble::Memory
     }
 }
 
 // What fails by `?` is a write: reads name their file.
-pub impl From<io::Error> for Trouble as TroubleFromWrite {
+impl From<io::Error> for Trouble {
     fn from(e: io::Error) -> Trouble {
         Trouble::Unwritable(e)
     }
 }
 
-pub impl fmt::Display for Trouble as TroubleDisplay {
+impl fmt::Display for Trouble {
     fn fmt<W: fmt::Write>(&self, f: &mut fmt::Formatter<W>) -> fmt::Result {
         match self {
             Trouble::Memory => f.write_str("no memory"),
@@ -82,9 +78,9 @@ pub impl fmt::Display for Trouble as TroubleDisplay {
 }
 
 // Says why there is no answer.
-pub fn tell(rt: &LibcRuntime, trouble: &Trouble) {
+pub fn tell(rt: &HostRuntime, trouble: &Trouble) {
     // a message that can't be written can't be told either
-    let _ = eprintln!(rt, "{trouble}");
+    let _ = eprintln!(rt; "{trouble}");
 }
 
 // Why there is no answer for the program in a file.
@@ -96,9 +92,9 @@ pub fn unanswered(heap: Global, file: &str, why: &'static str) -> Trouble {
 }
 
 // Says what went wrong, if anything did, and hands it on for `main` to return.
-pub fn report(rt: &LibcRuntime, result: Result<(), Trouble>) -> Result<(), Trouble> {
-    if let Err(trouble) = &result {
+pub fn report(rt: &HostRuntime, res: Result<(), Trouble>) -> Result<(), Trouble> {
+    if let Err(trouble) = &res {
         tell(rt, trouble);
     }
-    result
+    res
 }

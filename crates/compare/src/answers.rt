@@ -1,7 +1,6 @@
 // What one of the two answers says of words, in one shape for both, so that it can be compared and printed.
 use cli::numbers;
 use orders::threads::Spot;
-use std::error::AnyError;
 
 // Of a program: its outcomes, sorted, a row each (1 if it also comes out at once, else 0; all registers, thread by thread;
 // memory); whether it is plain; and the fewest fences, none if it is plain.
@@ -21,7 +20,7 @@ pub enum Said {
     Apart(&'static str, &'static str),
 }
 
-fn print_answer(rt: &LibcRuntime, answer: &Answer) -> Result<(), AnyError> {
+fn print_answer(rt: &HostRuntime, answer: &Answer) -> anyhow::Result<()> {
     rt.println(if answer.plain {
         "    plain"
     } else {
@@ -29,22 +28,22 @@ fn print_answer(rt: &LibcRuntime, answer: &Answer) -> Result<(), AnyError> {
     })?;
     for spot in answer.fences.as_slice() {
         let Spot { thread, index } = *spot;
-        println!(rt, "    fence: thread {thread}, instruction {index}")?;
+        println!(rt; "    fence: thread {thread}, instruction {index}")?;
     }
     for row in answer.rows.as_slice() {
         let row = numbers::line(rt.alloc(), row.as_slice())?;
-        println!(rt, "    outcome: {row}")?;
+        println!(rt; "    outcome: {row}")?;
     }
     Ok(())
 }
 
 // Prints what was said, in full.
-pub fn print(rt: &LibcRuntime, said: &Said) -> Result<(), AnyError> {
+pub fn print(rt: &HostRuntime, said: &Said) -> anyhow::Result<()> {
     match said {
         Said::NoProgram => rt.println("    no program")?,
         Said::Crowded => rt.println("    crowded")?,
         Said::Program(answer) => print_answer(rt, answer)?,
-        Said::Apart(looked, listed) => println!(rt, "    look: {looked}; outcomes: {listed}")?,
+        Said::Apart(looked, listed) => println!(rt; "    look: {looked}; outcomes: {listed}")?,
     }
     Ok(())
 }

@@ -2,11 +2,9 @@
 use crate::answers::Answer;
 use orders::events::Rule;
 use orders::fewest::fewest_fences;
-use orders::outcomes::Outcomes;
-use orders::outcomes::outcomes_by;
+use orders::outcomes::{Outcomes, outcomes_by};
 use program::instructions::Instruction;
-use std::alloc::AllocError;
-use std::alloc::Global;
+use std::alloc::{AllocError, Global};
 
 // The outcomes as rows, sorted.
 fn rows(heap: Global, waiting: &Outcomes, at_once: &Outcomes) -> Result<Vec<Vec<u32>>, AllocError> {

@@ -1,13 +1,10 @@
 // The first answer, by the calls that are compared: `look` and `outcomes`, with memory lent to them.
-use crate::answers::Answer;
-use crate::answers::Said;
-use fences::listing;
+use crate::answers::{Answer, Said};
 use fences::listing::Listed;
-use fences::looking;
 use fences::looking::Looked;
+use fences::{listing, looking};
 use orders::threads::Spot;
-use std::alloc::AllocError;
-use std::alloc::Global;
+use std::alloc::{AllocError, Global};
 
 // So many states are allowed, far more than a program has whose orders can all be made.
 const STATES: u32 = 50_000;
@@ -125,11 +122,13 @@ pub fn ask(heap: Global, lent: &mut Lent, words: &[u32]) -> Result<First, AllocE
     let said = match (looked, lent.outcomes(words)) {
         (Looked::NoProgram, Listed::NoProgram) => Said::NoProgram,
         (Looked::Crowded, Listed::Crowded) => Said::Crowded,
-        (Looked::Plain | Looked::Fences(_, _), Listed::Outcomes(count, _)) => Said::Program(Answer {
-            rows: rows(heap, lent.out.as_slice(), words, count)?,
-            plain: matches!(looked, Looked::Plain),
-            fences: spots(heap, fences.as_slice())?,
-        }),
+        (Looked::Plain | Looked::Fences(_, _), Listed::Outcomes(count, _)) => Said::Program(
+            Answer {
+                rows: rows(heap, lent.out.as_slice(), words, count)?,
+                plain: matches!(looked, Looked::Plain),
+                fences: spots(heap, fences.as_slice())?,
+            },
+        ),
         (looked, listed) => Said::Apart(looked_name(looked), listed_name(listed)),
     };
     Ok(First { said, moves })

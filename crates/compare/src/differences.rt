@@ -1,21 +1,12 @@
 // Words, what both answers say of them, and whether that is the same. Every difference is printed in full.
-use crate::answers;
-use crate::answers::Answer;
-use crate::answers::Said;
-use crate::by_orders;
-use crate::by_states;
-use crate::by_states::First;
-use crate::by_states::Lent;
+use crate::answers::{Answer, Said};
+use crate::by_states::{First, Lent};
 use crate::kinds::Counts;
-use crate::runs;
+use crate::{answers, by_orders, by_states, runs};
 use cli::numbers;
-use orders::threads::SpotPartialEq;
-use orders::threads::Threads;
-use orders::threads::threads_of;
+use orders::threads::{Threads, threads_of};
 use program::words::from_words;
-use std::alloc::AllocError;
-use std::alloc::Global;
-use std::error::AnyError;
+use std::alloc::{AllocError, Global};
 
 // In what the two differ on a program, if in anything.
 fn on_program(
@@ -71,20 +62,20 @@ fn difference(
 }
 
 fn print(
-    rt: &LibcRuntime,
+    rt: &HostRuntime,
     what: &str,
     words: &[u32],
     first: &First,
     second: &Said,
-) -> Result<(), AnyError> {
+) -> anyhow::Result<()> {
     let heap = rt.alloc();
     let words = numbers::line(heap, words)?;
     let moves = numbers::line(heap, first.moves.as_slice())?;
-    println!(rt, "difference in {what}")?;
-    println!(rt, "words: {words}")?;
-    println!(rt, "  by states; run: {moves}")?;
+    println!(rt; "difference in {what}")?;
+    println!(rt; "words: {words}")?;
+    println!(rt; "  by states; run: {moves}")?;
     answers::print(rt, &first.said)?;
-    println!(rt, "  by orders")?;
+    println!(rt; "  by orders")?;
     answers::print(rt, second)
 }
 
@@ -97,11 +88,11 @@ fn program_of(heap: Global, words: &[u32]) -> Result<Option<Threads>, AllocError
 
 // Compares what both say of the words, prints it if it differs, and counts it.
 pub fn compare(
-    rt: &LibcRuntime,
+    rt: &HostRuntime,
     lent: &mut Lent,
     words: &[u32],
     counts: &mut Counts,
-) -> Result<(), AnyError> {
+) -> anyhow::Result<()> {
     let heap = rt.alloc();
     let first = by_states::ask(heap, lent, words)?;
     let program = program_of(heap, words)?;

@@ -1,8 +1,6 @@
 // Counts by kind of what was compared: how often each kind of words came up.
 use crate::answers::Said;
-use program::instructions::Instruction;
-use program::instructions::Place;
-use std::error::AnyError;
+use program::instructions::{Instruction, Place};
 
 const LINES: usize = 26;
 
@@ -173,22 +171,18 @@ impl Counts {
 
 // The counts side by side: of the worked programs, of those made at random, and of damaged words.
 pub fn print(
-    rt: &LibcRuntime,
+    rt: &HostRuntime,
     worked: &Counts,
     random: &Counts,
     damaged: &Counts,
-) -> Result<(), AnyError> {
-    println!(
-        rt,
-        "{:<31}{:>9}{:>9}{:>9}",
-        "", "worked", "random", "damaged"
-    )?;
+) -> anyhow::Result<()> {
+    println!(rt; "{:<31}{:>9}{:>9}{:>9}", "", "worked", "random", "damaged")?;
     let (worked, random, damaged) = (worked.lines(), random.lines(), damaged.lines());
     for k in 0..LINES {
         let (name, first) = worked[k];
         let (_, second) = random[k];
         let (_, third) = damaged[k];
-        println!(rt, "{name:<31}{first:>9}{second:>9}{third:>9}")?;
+        println!(rt; "{name:<31}{first:>9}{second:>9}{third:>9}")?;
     }
     Ok(())
 }

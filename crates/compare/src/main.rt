@@ -11,16 +11,13 @@ mod runs;
 
 use crate::by_states::Lent;
 use crate::kinds::Counts;
+use anyhow::anyhow;
 use differences::compare;
-use generate::programs::Limits;
-use generate::programs::program_words;
+use generate::programs::{Limits, program_words};
 use generate::random::Random;
 use generate::words::damaged;
 use std::env;
-use std::error::AnyError;
-use trials::known::ALL;
-use trials::known::many_stores;
-use trials::known::words_in;
+use trials::known::{ALL, many_stores, words_in};
 
 // All orders can be made only of few reads and writes: of nine, with all lists of fences, in a few milliseconds.
 const LIMITS: Limits = Limits {
@@ -34,7 +31,7 @@ struct Request {
     seed: u64,
 }
 
-fn asked(rt: &LibcRuntime) -> Result<Request, AnyError> {
+fn asked(rt: &HostRuntime) -> anyhow::Result<Request> {
     let mut numbers = Vec::new(rt.alloc());
     for argument in env::args(rt)?.skip(1) {
         numbers.push(argument.as_str().parse::<u64>()?)?;
@@ -45,12 +42,12 @@ fn asked(rt: &LibcRuntime) -> Result<Request, AnyError> {
             seed: 1,
         }),
         [count, seed] => Ok(Request { count, seed }),
-        _ => Err("usage: compare [COUNT SEED]".into()),
+        _ => Err(anyhow!("usage: compare [COUNT SEED]")),
     }
 }
 
 // The programs worked by hand, and one of too many states.
-fn compare_worked(rt: &LibcRuntime, lent: &mut Lent) -> Result<Counts, AnyError> {
+fn compare_worked(rt: &HostRuntime, lent: &mut Lent) -> anyhow::Result<Counts> {
     let heap = rt.alloc();
     let mut worked = Counts::new();
     for text in ALL {
@@ -64,10 +61,10 @@ fn compare_worked(rt: &LibcRuntime, lent: &mut Lent) -> Result<Counts, AnyError>
 
 // Programs made at random, and each once more with one word damaged.
 fn compare_random(
-    rt: &LibcRuntime,
+    rt: &HostRuntime,
     lent: &mut Lent,
     request: Request,
-) -> Result<(Counts, Counts), AnyError> {
+) -> anyhow::Result<(Counts, Counts)> {
     let heap = rt.alloc();
     let mut made = Counts::new();
     let mut broken = Counts::new();
@@ -81,20 +78,20 @@ fn compare_random(
     Ok((made, broken))
 }
 
-fn run(rt: &LibcRuntime) -> Result<(), AnyError> {
+fn run(rt: &HostRuntime) -> anyhow::Result<()> {
     let request = asked(rt)?;
     let Request { count, seed } = request;
-    println!(rt, "{count} programs made at random, seed {seed}")?;
+    println!(rt; "{count} programs made at random, seed {seed}")?;
     let mut lent = Lent::new(rt.alloc())?;
     let worked = compare_worked(rt, &mut lent)?;
     let (made, broken) = compare_random(rt, &mut lent, request)?;
     kinds::print(rt, &worked, &made, &broken)?;
     if worked.differences > 0 || made.differences > 0 || broken.differences > 0 {
-        return Err("there are differences".into());
+        return Err(anyhow!("there are differences"));
     }
     Ok(())
 }
 
-fn main(rt: LibcRuntime) -> Result<(), AnyError> {
-    rt.report(run(&rt))
+fn main(rt: HostRuntime) -> anyhow::Result<()> {
+    run(&rt)
 }

@@ -1,14 +1,9 @@
 // A told run, replayed without the machine: its moves are an order of events, in which a load comes when its instruction is
 // done and a store when it goes to memory. What the run ends with is what this order makes of the program.
-use orders::events::Event;
-use orders::events::Rule;
-use orders::events::events_of;
-use orders::events::must_precede;
-use orders::events::stands_in;
+use orders::events::{Event, Rule, events_of, must_precede, stands_in};
 use orders::numbers::outcome_of;
 use program::instructions::Instruction;
-use std::alloc::AllocError;
-use std::alloc::Global;
+use std::alloc::{AllocError, Global};
 
 // How far a replay is: how many instructions of each thread are done, and which events came.
 #[derive(Drop)]

@@ -1,15 +1,11 @@
 -- Moves by number: below the number of threads a next instruction, from there on a store going out.
-use mathlib.Core.Path.{_≡_, refl, sym, ap, subst, _∙_}
-use mathlib.Core.Bool.{Bool, true, false}
-use mathlib.Core.List.{List}
+use Rattle.std.proofs.Common.{◌≡◌, ℕ, ◌-◌, ◌<◌, ◌≤◌, Bool, true, false, ltb, List, sym, refl, ap, ◌∙◌, subst}
 use mathlib.Core.Option.{Option}
-use Prim.Native.Nat.{ℕ, _-_, _<_, _≤_}
-use lib.Dec.{ltb}
-use Rattle·std.proofs.shelf.Tests.{lt-ltb, le-ltb}
-use Rattle·model.specs.Code.{pick, Prog}
-use Rattle·model.specs.Machine.{St, Move, next, out, move}
-use Rattle·machine.specs.Post.{Stepped}
-use Rattle·explore·specs.Found.{move-of}
+use Rattle.std.proofs.lemmas.Bool.{lt-ltb, le-ltb}
+use Rattle.model.specs.Code.{pick, Prog}
+use Rattle.model.specs.Machine.{St, Move, next, out, move}
+use Rattle.machine.specs.Post.{Stepped}
+use Rattle.explore.specs.Found.{move-of}
 
 pub move-next : (n m : ℕ) → m < n → move-of n m ≡ next m
 move-next n m h = ap (λ (b : Bool). pick b (next m) (out (m - n))) (lt-ltb m n h)
@@ -18,5 +14,5 @@ pub move-out : (n m : ℕ) → n ≤ m → move-of n m ≡ out (m - n)
 move-out n m h = ap (λ (b : Bool). pick b (next m) (out (m - n))) (le-ltb m n h)
 
 -- a step by an equal move
-pub stepped-by : (p : Prog) (a b : Move) (ws : List ℕ) (r : Bool) (ws′ : List ℕ) → a ≡ b → Stepped (λ s. move p s b) ws r ws′ → Stepped (λ s. move p s a) ws r ws′
-stepped-by p a b ws r ws′ e h = subst (λ (m : Move). Stepped (λ s. move p s m) ws r ws′) (sym e) h
+pub stepped_by : (p : Prog) (a b : Move) (ws : List ℕ) (r : Bool) (ws' : List ℕ) → a ≡ b → Stepped (λ s. move p s b) ws r ws' → Stepped (λ s. move p s a) ws r ws'
+stepped_by p a b ws r ws' e h = subst (λ (m : Move). Stepped (λ s. move p s m) ws r ws') (sym e) h

@@ -1,26 +1,22 @@
 -- The states that are found, in the queue's words, one record each; and the edges between them, in words of their own.
 -- At i * moves + m stands 0 where move m can't be made in state i, else the number of the state that it leads to, plus 1.
-use mathlib.Core.Path.{_≡_}
-use mathlib.Core.List.{List, [], _∷_}
-use mathlib.Core.Option.{Option, some, none}
-use Prim.Native.Nat.{ℕ, zero, suc, _+_, _*_, _-_, _<_, _≤_}
-use lib.Dec.{ltb}
-use lib.ListN.{length, getD}
-use Rattle·lent.specs.Records.{rec}
-use Rattle·model.specs.Code.{pick, Prog}
-use Rattle·model.specs.Machine.{St, Move, next, out, move, moves, begin}
-use Rattle·machine.specs.Packed.{unpack, Packs}
+use Rattle.std.specs.Prelude.{◌≡◌, ℕ, zero, suc, ◌+◌, ◌-◌, ◌*◌, ◌<◌, ◌≤◌, List, [], ◌∷◌, length, nat_lt, slice_index}
+use Rattle.std.proofs.Math.Option.{Option, some, none}
+use Rattle.lent.specs.Records.{rec}
+use Rattle.model.specs.Code.{pick, Prog}
+use Rattle.model.specs.Machine.{St, Move, next, out, move, moves, begin}
+use Rattle.machine.specs.Packed.{unpack, Packs}
 
 -- the words of a state of n threads, and its moves
 abbrev pub width : ℕ → ℕ
 width n = 1 + 3 * n
 
-abbrev pub moves-of : ℕ → ℕ
-moves-of n = 2 * n
+abbrev pub moves_of : ℕ → ℕ
+moves_of n = 2 * n
 
 -- move m of n threads: the next instruction of thread m; from n on, the oldest store of thread m - n going to memory
 abbrev pub move-of : ℕ → ℕ → Move
-move-of n m = pick (ltb m n) (next m) (out (m - n))
+move-of n m = pick (nat_lt m n) (next m) (out (m - n))
 
 -- the state that record i holds
 unfoldable pub state : ℕ → List ℕ → ℕ → St
@@ -53,19 +49,19 @@ pub record Ranks (p : Prog) (q : List ℕ) (n i since : ℕ) : Type 0 where
 
 -- the word of each state but the first names a state with an edge to it, among the first `done` edges
 abbrev pub Parents : Prog → List ℕ → List ℕ → ℕ → ℕ → Type 0
-Parents p g from n done = (j : ℕ) → 0 < j → j < n → (l : ℕ) × (l < moves-of (length p)) × (getD from j 0 * moves-of (length p) + l < done) × (getD g (getD from j 0 * moves-of (length p) + l) 0 ≡ suc j)
+Parents p g from n done = (j : ℕ) → 0 < j → j < n → (l : ℕ) × (l < moves_of (length p)) × (slice_index from j * moves_of (length p) + l < done) × (slice_index g (slice_index from j * moves_of (length p) + l) ≡ suc j)
 
 -- all states are found, in the order of levels, with all edges: each leads ahead, to a state with a greater number
 pub record Explored (p : Prog) (q g : List ℕ) (n : ℕ) : Type 0 where
   pub found : Found p q n
   pub sorted : Sorted p q n
-  pub edges : (i m : ℕ) → i < n → m < moves-of (length p) → Edge p q n i m (getD g (i * moves-of (length p) + m) 0)
-  pub ahead : (i m j : ℕ) → i < n → m < moves-of (length p) → getD g (i * moves-of (length p) + m) 0 ≡ suc j → i < j
+  pub edges : (i m : ℕ) → i < n → m < moves_of (length p) → Edge p q n i m (slice_index g (i * moves_of (length p) + m))
+  pub ahead : (i m j : ℕ) → i < n → m < moves_of (length p) → slice_index g (i * moves_of (length p) + m) ≡ suc j → i < j
   pub all : (ms : List Move) (s : St) → moves p (begin p) ms ≡ some s → (i : ℕ) × (i < n) × (state (length p) q i ≡ s)
 
 -- states of a list are all come to by runs, and all different: there are as many as the list is long
 pub data Among (s : St) : List St → Type 0 where
-  at-first : {ss : List St} → Among s (s ∷ ss)
+  at_first : {ss : List St} → Among s (s ∷ ss)
   behind : {t : St} {ss : List St} → Among s ss → Among s (t ∷ ss)
 
 abbrev pub Different : List St → Type 0

@@ -1,12 +1,9 @@
 -- A run to a state that was found, as moves by number.
-use mathlib.Core.Path.{_≡_}
-use mathlib.Core.List.{List, [], _∷_, map}
-use mathlib.Core.Option.{some}
-use Prim.Native.Nat.{ℕ, _<_, _≤_}
-use lib.ListN.{length, take}
-use Rattle·model.specs.Code.{Prog}
-use Rattle·model.specs.Machine.{moves, begin}
-use Rattle·explore·specs.Found.{moves-of, move-of, state}
+use Rattle.std.specs.Prelude.{◌≡◌, ℕ, ◌<◌, ◌≤◌, List, [], ◌∷◌, map, length, take}
+use Rattle.std.proofs.Math.Option.{some}
+use Rattle.model.specs.Code.{Prog}
+use Rattle.model.specs.Machine.{moves, begin}
+use Rattle.explore.specs.Found.{moves_of, move-of, state}
 
 abbrev pub All-below : ℕ → List ℕ → Type 0
 All-below n [] = Unit {0}
@@ -16,4 +13,4 @@ All-below n (m ∷ ms) = (m < n) × All-below n ms
 pub record RunTo (p : Prog) (q : List ℕ) (i : ℕ) (path : List ℕ) (len : ℕ) : Type 0 where
   pub few : len ≤ 64
   pub run : moves p (begin p) (map (move-of (length p)) (take len path)) ≡ some (state (length p) q i)
-  pub numbers : All-below (moves-of (length p)) (take len path)
+  pub numbers : All-below (moves_of (length p)) (take len path)

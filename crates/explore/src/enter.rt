@@ -1,12 +1,10 @@
 // Finding a state's record again, or writing it behind the others.
-ghost use mathlib.Core.Path.{_≡_};
-ghost use Prim.Native.Nat.{_+_, _*_, _^_, _<_, _≤_};
-ghost use lib.ListN.{length};
-ghost use Rattle·lent.specs.Table.{Probed};
-ghost use Rattle·explore·specs.Post.{EnteredAs};
+ghost use Rattle.std.specs.Prelude.{◌≡◌, ◌+◌, ◌*◌, ◌^◌, ◌<◌, ◌≤◌, length};
+ghost use Rattle.lent.specs.Table.{Probed};
+ghost use Rattle.explore.specs.Post.{EnteredAs};
+
 use lent::shape::Shape;
-use lent::table::find;
-use lent::table::insert;
+use lent::table::{find, insert};
 
 // The number of the record from `since` on that is the key, and how many records there are then; none where the key is
 // new and all is full.
@@ -19,13 +17,13 @@ pub fn enter(
     table: &mut [u32],
     key: &[u32],
 ) -> Option<(usize, usize)>
-    requires probed { ⌜ Probed shape (now queue) (now table) since n ⌝ }
-    requires room { ⌜ n < since + shape .room ⌝ }
-    requires few { ⌜ n ≤ limit ⌝ }
-    requires told { ⌜ limit < 2 ^ 32 ⌝ }
-    requires ends { ⌜ limit * shape .width ≤ length (now queue) ⌝ }
-    requires whole { ⌜ length (now key) ≡ shape .width ⌝ }
-    ensures { λ r. ⌜ EnteredAs shape limit (now (queue .entry)) (now (table .entry)) since n (now (key .entry)) (now (queue .exit)) (now (table .exit)) r ⌝ }
+    requires probed { Probed shape queue.old table.old since n }
+    requires room { n < since + shape.room }
+    requires few { n ≤ limit }
+    requires told { limit < 2 ^ 32 }
+    requires ends { limit * shape.width ≤ length queue.old }
+    requires whole { length key.now ≡ shape.width }
+    ensures { EnteredAs shape limit queue.old table.old since n key.now queue.new table.new result }
 {
     let place = find(shape, queue, since, n, table, key);
     let entry = table[place] as usize;

@@ -1,10 +1,9 @@
 // All moves of one state.
-ghost use mathlib.Core.Path.{_≡_};
-ghost use Prim.Native.Nat.{_+_, _*_, _^_, _<_, _≤_};
-ghost use lib.ListN.{length};
-ghost use Rattle·program.specs.Meaning.{program};
-ghost use Rattle·explore·specs.Found.{width, moves-of};
-ghost use Rattle·explore·specs.Post.{Going, Expanded};
+ghost use Rattle.std.specs.Prelude.{◌≡◌, ◌+◌, ◌*◌, ◌^◌, ◌<◌, ◌≤◌, length};
+ghost use Rattle.program.specs.Meaning.{program};
+ghost use Rattle.explore.specs.Found.{width, moves_of};
+ghost use Rattle.explore.specs.Post.{Going, Expanded};
+
 use crate::visit::visit;
 use lent::shape::Shape;
 use program::threads::Program;
@@ -26,17 +25,17 @@ pub fn expand(
     from: &mut [u32],
     key: &mut [u32],
 ) -> Option<usize>
-    requires going { ⌜ Going (program (now p)) shape limit (now queue) (now table) (now edges) (now from) since n i 0 ⌝ }
-    requires key { ⌜ length (now key) ≡ width (length (program (now p))) ⌝ }
-    requires room { ⌜ n + 8 < since + shape .room ⌝ }
-    requires told { ⌜ limit < 2 ^ 32 ⌝ }
-    requires starts { ⌜ start ≡ i * shape .width ⌝ }
-    requires words { ⌜ start + shape .width ≤ length (now queue) ⌝ }
-    requires stands { ⌜ first ≡ i * moves-of (length (program (now p))) ⌝ }
-    requires edges_end { ⌜ first + moves-of (length (program (now p))) ≤ length (now edges) ⌝ }
-    requires in_from { ⌜ limit ≤ length (now from) ⌝ }
-    requires ends { ⌜ limit * shape .width ≤ length (now queue) ⌝ }
-    ensures { λ r. ⌜ Expanded (program (now (p .entry))) shape limit since i (now (queue .exit)) (now (table .exit)) (now (edges .exit)) (now (from .exit)) r ⌝ }
+    requires going { Going (program p.now) shape limit queue.old table.old edges.old from.old since n i 0 }
+    requires key { length key.old ≡ width (length (program p.now)) }
+    requires room { n + 8 < since + shape.room }
+    requires told { limit < 2 ^ 32 }
+    requires starts { start ≡ i * shape.width }
+    requires words { start + shape.width ≤ length queue.old }
+    requires stands { first ≡ i * moves_of (length (program p.now)) }
+    requires edges_end { first + moves_of (length (program p.now)) ≤ length edges.old }
+    requires in_from { limit ≤ length from.old }
+    requires ends { limit * shape.width ≤ length queue.old }
+    ensures { Expanded (program p.now) shape limit since i queue.new table.new edges.new from.new result }
 {
     let mut states = n;
     for m in 0..2 * p.count {

@@ -1,13 +1,12 @@
 // Exploration: every state's moves in turn, from the first state on, until all states found have had their turn. It goes
 // level by level: each move leads one level further, so that a state is looked for among those of the next level alone. The
 // table forgets a level when its turn comes, and the words in use stay few.
-ghost use mathlib.Core.Path.{_≡_};
-ghost use Prim.Native.Nat.{_+_, _*_, _^_, _<_, _≤_};
-ghost use lib.ListN.{length, take, replicate};
-ghost use Rattle·program.specs.Meaning.{program};
-ghost use Rattle·lent.specs.Table.{homes};
-ghost use Rattle·explore·specs.Found.{width, moves-of};
-ghost use Rattle·explore·specs.Post.{Between, Started, Level-end, AllExplored};
+ghost use Rattle.std.specs.Prelude.{◌≡◌, ◌+◌, ◌*◌, ◌^◌, ◌<◌, ◌≤◌, length, take, replicate};
+ghost use Rattle.program.specs.Meaning.{program};
+ghost use Rattle.lent.specs.Table.{homes};
+ghost use Rattle.explore.specs.Found.{width, moves_of};
+ghost use Rattle.explore.specs.Post.{Between, Started, Level-end, AllExplored};
+
 use crate::expand::expand;
 use crate::grow::make_room;
 use lent::shape::Shape;
@@ -16,8 +15,8 @@ use program::threads::Program;
 
 // Writes the first state, where all is 0.
 fn write_first(width: usize, queue: &mut [u32])
-    requires { ⌜ width ≤ length (now queue) ⌝ }
-    ensures { λ _. ⌜ take width (now (queue .exit)) ≡ replicate width 0 ⌝ }
+    requires { width ≤ length queue.old }
+    ensures { take width queue.new ≡ replicate width 0 }
 {
     for k in 0..width {
         queue[k] = 0;
@@ -26,12 +25,12 @@ fn write_first(width: usize, queue: &mut [u32])
 
 // The first state, and a small table, which need not know it: no run comes to it again.
 fn start(p: &Program, limit: usize, queue: &mut [u32], table: &mut [u32]) -> Shape
-    requires some { ⌜ 0 < limit ⌝ }
-    requires told { ⌜ limit < 2 ^ 32 ⌝ }
-    requires room { ⌜ width (length (program (now p))) ≤ length (now queue) ⌝ }
-    requires small { ⌜ 1536 ≤ length (now table) ⌝ }
-    requires fits { ⌜ 1024 + (limit + 9) ≤ length (now table) ⌝ }
-    ensures { λ r. ⌜ Started (program (now (p .entry))) limit (now (queue .exit)) (now (table .exit)) r ⌝ }
+    requires some { 0 < limit }
+    requires told { limit < 2 ^ 32 }
+    requires room { width (length (program p.now)) ≤ length queue.old }
+    requires small { 1536 ≤ length table.old }
+    requires fits { 1024 + (limit + 9) ≤ length table.old }
+    ensures { Started (program p.now) limit queue.new table.new result }
 {
     let width = 1 + 3 * p.count;
     write_first(width, queue);
@@ -46,7 +45,7 @@ fn start(p: &Program, limit: usize, queue: &mut [u32], table: &mut [u32]) -> Sha
 
 // Where the level of state `i` ends: at `since`, or, if state `i` is the first of the next level, behind all states found.
 fn level_end(since: usize, n: usize, i: usize) -> usize
-    ensures { λ r. ⌜ Level-end since n i r ⌝ }
+    ensures { Level-end since n i result }
 {
     if i == since { n } else { since }
 }
@@ -62,15 +61,15 @@ pub fn explore(
     from: &mut [u32],
     key: &mut [u32],
 ) -> Option<usize>
-    requires some { ⌜ 0 < limit ⌝ }
-    requires told { ⌜ limit < 2 ^ 32 ⌝ }
-    requires key { ⌜ length (now key) ≡ width (length (program (now p))) ⌝ }
-    requires ends { ⌜ limit * width (length (program (now p))) ≤ length (now queue) ⌝ }
-    requires edges_end { ⌜ limit * moves-of (length (program (now p))) ≤ length (now edges) ⌝ }
-    requires in_from { ⌜ limit ≤ length (now from) ⌝ }
-    requires small { ⌜ 1536 ≤ length (now table) ⌝ }
-    requires fits { ⌜ 1024 + (limit + 9) ≤ length (now table) ⌝ }
-    ensures { λ r. ⌜ AllExplored (program (now (p .entry))) limit (now (queue .exit)) (now (edges .exit)) (now (from .exit)) r ⌝ }
+    requires some { 0 < limit }
+    requires told { limit < 2 ^ 32 }
+    requires key { length key.old ≡ width (length (program p.now)) }
+    requires ends { limit * width (length (program p.now)) ≤ length queue.old }
+    requires edges_end { limit * moves_of (length (program p.now)) ≤ length edges.old }
+    requires in_from { limit ≤ length from.old }
+    requires small { 1536 ≤ length table.old }
+    requires fits { 1024 + (limit + 9) ≤ length table.old }
+    ensures { AllExplored (program p.now) limit queue.new edges.new from.new result }
 {
     let moves = 2 * p.count;
     let mut shape = start(p, limit, queue, table);
@@ -83,19 +82,7 @@ pub fn explore(
         since = level_end(since, n, i);
         shape = make_room(shape, limit, queue, since, n, table);
         let Some(states) = expand(
-            p,
-            shape,
-            limit,
-            since,
-            n,
-            i,
-            words,
-            first,
-            queue,
-            table,
-            edges,
-            from,
-            key,
+            p, shape, limit, since, n, i, words, first, queue, table, edges, from, key,
         ) else {
             return None;
         };

@@ -1,19 +1,18 @@
 // The table grows by doubling as states come, so that few states touch few words.
-ghost use mathlib.Core.Path.{_≡_};
-ghost use Prim.Native.Nat.{_+_, _*_, _^_, _<_, _≤_};
-ghost use lib.ListN.{length};
-ghost use Rattle·lent.specs.Table.{homes, Probed};
-ghost use Rattle·explore·specs.Grown.{Larger, Roomy};
+ghost use Rattle.std.specs.Prelude.{◌≡◌, ◌+◌, ◌*◌, ◌^◌, ◌<◌, ◌≤◌, length};
+ghost use Rattle.lent.specs.Table.{homes, Probed};
+ghost use Rattle.explore.specs.Grown.{Larger, Roomy};
+
 use lent::shape::Shape;
 use lent::table::rebuild;
 
 // A larger shape for the table of n states, with room for the moves of one more state: twice the homes, half of them to be taken, as
 // long as there are words for that; else room for all states that may be.
 fn larger(shape: Shape, limit: usize, n: usize, places: usize) -> Shape
-    requires few { ⌜ n ≤ limit ⌝ }
-    requires told { ⌜ limit < 2 ^ 32 ⌝ }
-    requires fits { ⌜ homes shape + (limit + 9) ≤ places ⌝ }
-    ensures { λ r. ⌜ Larger shape limit n places r ⌝ }
+    requires few { n ≤ limit }
+    requires told { limit < 2 ^ 32 }
+    requires fits { homes shape + (limit + 9) ≤ places }
+    ensures { Larger shape limit n places result }
 {
     let all = limit + 9;
     if shape.bits >= 32 || (1usize << (shape.bits + 1)) + all > places {
@@ -46,11 +45,11 @@ pub fn make_room(
     n: usize,
     table: &mut [u32],
 ) -> Shape
-    requires probed { ⌜ Probed shape (now queue) (now table) since n ⌝ }
-    requires few { ⌜ n ≤ limit ⌝ }
-    requires told { ⌜ limit < 2 ^ 32 ⌝ }
-    requires fits { ⌜ homes shape + (limit + 9) ≤ length (now table) ⌝ }
-    ensures { λ r. ⌜ Roomy shape limit (now (queue .entry)) since n (now (table .exit)) r ⌝ }
+    requires probed { Probed shape queue.now table.old since n }
+    requires few { n ≤ limit }
+    requires told { limit < 2 ^ 32 }
+    requires fits { homes shape + (limit + 9) ≤ length table.old }
+    ensures { Roomy shape limit queue.now since n table.new result }
 {
     if n - since + 8 < shape.room {
         return shape;

@@ -1,13 +1,10 @@
 // The run to a state that was found, read back from the words that exploration left.
-ghost use mathlib.Core.Path.{_≡_};
-ghost use mathlib.Core.List.{List};
-ghost use Prim.Native.Nat.{ℕ, _*_, _<_, _≤_};
-ghost use lib.ListN.{length};
-ghost use Rattle·program.specs.Meaning.{program};
-ghost use Rattle·explore·specs.Found.{moves-of, Parents, Explored};
-ghost use Rattle·explore·specs.Runs.{RunTo};
+ghost use Rattle.std.specs.Prelude.{◌≡◌, ℕ, ◌*◌, ◌<◌, ◌≤◌, List, length};
+ghost use Rattle.program.specs.Meaning.{program};
+ghost use Rattle.explore.specs.Found.{moves_of, Parents, Explored};
+ghost use Rattle.explore.specs.Runs.{RunTo};
+
 use graph::rules::Kept;
-use graph::rules::KeptRule;
 use graph::walks::walk_back;
 use program::threads::Program;
 
@@ -20,13 +17,13 @@ pub fn run_to(
     i: usize,
     path: &mut [u32],
 ) -> usize
-    requires explored { ⌜ ((q : List ℕ) × Explored (program (now p)) q (now edges) n) ⌝ }
-    requires parents { ⌜ Parents (program (now p)) (now edges) (now from) n (n * moves-of (length (program (now p)))) ⌝ }
-    requires kept { ⌜ n * moves-of (length (program (now p))) ≤ length (now edges) ⌝ }
-    requires in_from { ⌜ n ≤ length (now from) ⌝ }
-    requires below { ⌜ i < n ⌝ }
-    requires room { ⌜ length (now path) ≡ 64 ⌝ }
-    ensures { λ r. ⌜ ((q : List ℕ) → Explored (program (now (p .entry))) q (now (edges .entry)) n → RunTo (program (now (p .entry))) q i (now (path .exit)) r) ⌝ }
+    requires explored { (q : List ℕ) × Explored (program p.now) q edges.now n }
+    requires parents { Parents (program p.now) edges.now from.now n (n * moves_of (length (program p.now))) }
+    requires kept { n * moves_of (length (program p.now)) ≤ length edges.now }
+    requires in_from { n ≤ length from.now }
+    requires below { i < n }
+    requires room { length path.old ≡ 64 }
+    ensures { (q : List ℕ) → Explored (program p.now) q edges.now n → RunTo (program p.now) q i path.new result }
 {
     let rule = Kept {
         edges,

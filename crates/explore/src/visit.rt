@@ -1,11 +1,10 @@
 // One edge of the graph of states: the move made, the state found again or written behind the others, and the edge's
 // word written, and from which state it was come to.
-ghost use mathlib.Core.Path.{_≡_};
-ghost use Prim.Native.Nat.{_+_, _*_, _^_, _<_, _≤_};
-ghost use lib.ListN.{length, set};
-ghost use Rattle·program.specs.Meaning.{program};
-ghost use Rattle·explore·specs.Found.{width, moves-of};
-ghost use Rattle·explore·specs.Post.{Going, Visited};
+ghost use Rattle.std.specs.Prelude.{◌≡◌, ◌+◌, ◌*◌, ◌^◌, ◌<◌, ◌≤◌, length, slice_set};
+ghost use Rattle.program.specs.Meaning.{program};
+ghost use Rattle.explore.specs.Found.{width, moves_of};
+ghost use Rattle.explore.specs.Post.{Going, Visited};
+
 use crate::enter::enter;
 use crate::steps::step;
 use lent::shape::Shape;
@@ -14,10 +13,10 @@ use program::threads::Program;
 // Keeps that state `j` was come to from state `i`, if it is new: of several such states the first is kept, so that in the
 // runs read back the first threads go first.
 fn keep_parent(from: &mut [u32], n: usize, states: usize, j: usize, i: usize)
-    requires within { ⌜ j < length (now from) ⌝ }
-    requires told { ⌜ i < 2 ^ 32 ⌝ }
-    ensures new { λ _. ⌜ (n < states → now (from .exit) ≡ set (now (from .entry)) j i) ⌝ }
-    ensures old { λ _. ⌜ (states ≤ n → now (from .exit) ≡ now (from .entry)) ⌝ }
+    requires within { j < length from.old }
+    requires told { i < 2 ^ 32 }
+    ensures new { n < states → from.new ≡ slice_set from.old j i }
+    ensures old { states ≤ n → from.new ≡ from.old }
 {
     if n < states {
         from[j] = i as u32;
@@ -42,18 +41,18 @@ pub fn visit(
     from: &mut [u32],
     key: &mut [u32],
 ) -> Option<usize>
-    requires going { ⌜ Going (program (now p)) shape limit (now queue) (now table) (now edges) (now from) since n i m ⌝ }
-    requires key { ⌜ length (now key) ≡ width (length (program (now p))) ⌝ }
-    requires room { ⌜ n < since + shape .room ⌝ }
-    requires told { ⌜ limit < 2 ^ 32 ⌝ }
-    requires starts { ⌜ start ≡ i * shape .width ⌝ }
-    requires words { ⌜ start + shape .width ≤ length (now queue) ⌝ }
-    requires stands { ⌜ at ≡ i * moves-of (length (program (now p))) + m ⌝ }
-    requires word { ⌜ at < length (now edges) ⌝ }
-    requires ends { ⌜ limit * shape .width ≤ length (now queue) ⌝ }
-    requires in_from { ⌜ limit ≤ length (now from) ⌝ }
-    requires below { ⌜ m < moves-of (length (program (now p))) ⌝ }
-    ensures { λ r. ⌜ Visited (program (now (p .entry))) shape limit since n i m (now (queue .exit)) (now (table .exit)) (now (edges .exit)) (now (from .exit)) r ⌝ }
+    requires going { Going (program p.now) shape limit queue.old table.old edges.old from.old since n i m }
+    requires key { length key.old ≡ width (length (program p.now)) }
+    requires room { n < since + shape.room }
+    requires told { limit < 2 ^ 32 }
+    requires starts { start ≡ i * shape.width }
+    requires words { start + shape.width ≤ length queue.old }
+    requires stands { at ≡ i * moves_of (length (program p.now)) + m }
+    requires word { at < length edges.old }
+    requires ends { limit * shape.width ≤ length queue.old }
+    requires in_from { limit ≤ length from.old }
+    requires below { m < moves_of (length (program p.now)) }
+    ensures { Visited (program p.now) shape limit since n i m queue.new table.new edges.new from.new result }
 {
     if !step(p, m, &queue[start..start + shape.width], key) {
         edges[at] = 0;

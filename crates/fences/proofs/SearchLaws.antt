@@ -1,42 +1,34 @@
 -- What a look at a set of spots gives: either the set works, or a clause that every set that works meets. And how the
 -- search goes on from one set to the next, up to the fewest and first that works.
-use mathlib.Core.Path.{_≡_, refl, sym, ap, subst, _∙_}
-use mathlib.Core.Logic.{inl, inr}
-use mathlib.Core.Bool.{true}
-use mathlib.Core.List.{List, [], _∷_}
+use Rattle.std.proofs.Common.{◌≡◌, ℕ, suc, ◌+◌, ◌-◌, ◌^◌, ◌<◌, ◌≤◌, true, T, List, [], ◌∷◌, length, get_or, take, set, Some, None, sym, refl, ap, ◌∙◌, subst, inl, inr, arith}
 use mathlib.Core.Option.{some}
-use Prim.Native.Nat.{ℕ, suc, _+_, _-_, _^_, _<_, _≤_}
-use native.Mathlib.Omega.{arith}
-use lib.Bits.{bitAnd, and-comm}
+use lib.Bits.{bit_and, and_comm}
 use lib.Count.{ones, ones-le}
-use lib.Dec.{T}
-use lib.ListN.{length, getD, take, set}
-use Rattle·std.proofs.shelf.Lists.{length-set, length-take-le, getD-take, getD-set-same, getD-set-other}
-use Rattle·std.proofs.shelf.Tests.{cases-lt, cases-eq}
-use Rattle·model.specs.Code.{Thread, Prog, ok}
-use Rattle·model.specs.Machine.{St, Move, moves, begin, outcome, all-at-once}
-use Rattle·model.specs.Fences.{Spot, put-in, fenced-ts, with-fences, Does-it, Fewest}
-use Rattle·model.specs.Guards.{guards, gmoves, hits}
-use Rattle·model.specs.Outcomes.{At-once, Is-plain, Shows}
-use Rattle·model.proofs.RunsUnderGuards.{on-guards, gmoves-less}
-use Rattle·model.proofs.ByStates.{by-states}
-use Rattle·model.proofs.Clauses.{must-hit}
-use Rattle·model.proofs.OneEnd.{one-end}
-use Rattle·model.proofs.AlsoWaiting.{all-moves}
-use Rattle·hitting.specs.Masks.{Within, Misses}
-use Rattle·hitting.specs.Post.{Next-or-none}
-use Rattle·std.specs.declared.option.Option.the-variants.{Some, None}
-use Rattle·hitting.proofs.Halves.{ones-none}
-use Rattle·spots.specs.Masks.{spots, every-spot}
-use Rattle·spots.proofs.Lists.{length-spots, mask-placed}
-use Rattle·spots.proofs.Guarded.{bit-on, misses-bits}
-use Rattle·spots.proofs.Fewest.{fewest-by-masks, some-mask-works}
-use Rattle·guard.specs.Masks.{masked, mask}
-use Rattle·guard.proofs.MaskLaws.{masked-at, on-mask}
-use Rattle·explore.specs.Found.{state}
-use Rattle·fences·specs.Rows.{done-at}
-use Rattle·fences·specs.Searching.{Nothing-bad, Learnt-masks, Earlier-fail}
-use Rattle·fences·specs.Fewest.{Kept-or-not}
+use Rattle.std.proofs.lemmas.List.{length-set, length-take-le, get_or-take, get_or-set_same, get_or-set_other}
+use Rattle.std.proofs.lemmas.Bool.{cases_lt, cases_eq}
+use Rattle.model.specs.Code.{Thread, Prog, ok}
+use Rattle.model.specs.Machine.{St, Move, moves, begin, outcome, all-at-once}
+use Rattle.model.specs.Fences.{Spot, put_in, fenced-ts, with-fences, Does-it, Fewest}
+use Rattle.model.specs.Guards.{guards, gmoves, hits}
+use Rattle.model.specs.Outcomes.{At-once, Is-plain, Shows}
+use Rattle.model.proofs.RunsUnderGuards.{on-guards, gmoves-less}
+use Rattle.model.proofs.ByStates.{by-states}
+use Rattle.model.proofs.Clauses.{must-hit}
+use Rattle.model.proofs.OneEnd.{one_end}
+use Rattle.model.proofs.AlsoWaiting.{all-moves}
+use Rattle.hitting.specs.Masks.{Within, Misses}
+use Rattle.hitting.specs.Post.{Next-or-none}
+use Rattle.hitting.proofs.Halves.{ones_none}
+use Rattle.spots.specs.Masks.{spots, every-spot}
+use Rattle.spots.proofs.Lists.{length-spots, mask-placed}
+use Rattle.spots.proofs.Guarded.{bit-on, misses-bits}
+use Rattle.spots.proofs.Fewest.{fewest-by-masks, some-mask-works}
+use Rattle.guard.specs.Masks.{masked, mask}
+use Rattle.guard.proofs.MaskLaws.{masked-at, on-mask}
+use Rattle.explore.specs.Found.{state}
+use Rattle.fences.specs.Rows.{done_at}
+use Rattle.fences.specs.Searching.{Nothing-bad, Learnt-masks, Earlier-fail}
+use Rattle.fences.specs.Fewest.{Kept-or-not}
 
 -- where a bit of the mask is set, its spot is guarded
 bits-guards : (x n k : ℕ) → x < 2 ^ 32 → masked x n k ≡ true → guards (spots x) n k ≡ true
@@ -49,13 +41,13 @@ bits-run : (x : ℕ) (p : Prog) (s t : St) (ms : List Move) → x < 2 ^ 32 → g
 bits-run x p s t ms l = gmoves-less (masked x) (guards (spots x)) p s t ms (λ n k. bits-guards x n k l)
 
 plain-with : (p : Prog) (x : ℕ) → x < 2 ^ 32 → Nothing-bad p x → Is-plain (with-fences (spots x) p)
-plain-with p x l f = by-states (spots x) p .1 (λ ms s e d. f ms s (bits-run x p (begin p) s ms l e) d)
+plain-with p x l f = (by-states (spots x) p).1 (λ ms s e d. f ms s (bits-run x p (begin p) s ms l e) d)
 
 pub works : (p : Prog) (x : ℕ) → T (ok p) → x < 2 ^ 32 → Within x (every-spot p) → Nothing-bad p x → Does-it p (spots x)
 works p x h l w f = let (a, b) = mask-placed p x h l w in (a, b, plain-with p x l f)
 
 -- no fences change nothing
-none-put : (n k : ℕ) (t : Thread) → put-in [] n k t ≡ t
+none-put : (n k : ℕ) (t : Thread) → put_in [] n k t ≡ t
 none-put n k [] = refl
 none-put n k (i ∷ is) = ap (λ (z : Thread). i ∷ z) (none-put n (suc k) is)
 
@@ -63,42 +55,42 @@ none-fenced : (n : ℕ) (p : Prog) → fenced-ts [] n p ≡ p
 none-fenced n [] = refl
 none-fenced n (t ∷ ts) = ap (λ (z : Thread). z ∷ fenced-ts [] (suc n) ts) (none-put n 0 t) ∙ ap (λ (z : Prog). t ∷ z) (none-fenced (suc n) ts)
 
-no-length : (ss : List Spot) → length ss ≡ 0 → ss ≡ []
-no-length [] e = refl
-no-length (s ∷ ss) e = absurd (omega arith)
+no_length : (ss : List Spot) → length ss ≡ 0 → ss ≡ []
+no_length [] e = refl
+no_length (s ∷ ss) e = absurd (omega arith)
 
 pub no-spots : spots 0 ≡ []
-no-spots = no-length (spots 0) (length-spots 0 (omega arith) ∙ ones-none)
+no-spots = no_length (spots 0) (length-spots 0 (omega arith) ∙ ones_none)
 
 pub plain : (p : Prog) → Nothing-bad p 0 → Is-plain p
 plain p f = subst Is-plain (ap (λ (z : List Spot). with-fences z p) no-spots ∙ none-fenced 0 p) (plain-with p 0 (omega arith) f)
 
 -- a run to a finished state that isn't come to at once
-pub shows : (p : Prog) (q : List ℕ) (j : ℕ) (ms : List Move) → done-at p q j ≡ true → (((ns : List ℕ) × (all-at-once p (begin p) ns ≡ some (state (length p) q j))) → ⊥) → moves p (begin p) ms ≡ some (state (length p) q j) → Shows p ms
+pub shows : (p : Prog) (q : List ℕ) (j : ℕ) (ms : List Move) → done_at p q j ≡ true → (((ns : List ℕ) × (all-at-once p (begin p) ns ≡ some (state (length p) q j))) → ⊥) → moves p (begin p) ms ≡ some (state (length p) q j) → Shows p ms
 shows p q j ms d bad e = (state (length p) q j, e, d, never)
   where
     never : At-once p (outcome (state (length p) q j)) → ⊥
     never (ns, t, en, dt, o) =
         let (ks, ek) = all-moves p (begin p) t ns en in
-        let same : t ≡ state (length p) q j = one-end p ks ms t (state (length p) q j) ek e dt d o in
+        let same : t ≡ state (length p) q j = one_end p ks ms t (state (length p) q j) ek e dt d o in
         bad (ns, en ∙ ap some same)
 
 -- what shares no bit with what a bad run passes doesn't work
-pub fails : (p : Prog) (ms : List Move) (z : ℕ) → Shows p ms → z < 2 ^ 32 → bitAnd z (mask (hits p (begin p) ms)) ≡ 0 → Does-it p (spots z) → ⊥
+pub fails : (p : Prog) (ms : List Move) (z : ℕ) → Shows p ms → z < 2 ^ 32 → bit_and z (mask (hits p (begin p) ms)) ≡ 0 → Does-it p (spots z) → ⊥
 fails p ms z bad l e w =
     misses-bits z (mask (hits p (begin p) ms)) (hits p (begin p) ms) l (λ a o h i. on-mask (hits p (begin p) ms) a o h i) e (must-hit p (spots z) ms w bad)
 
-pub fails-turned : (p : Prog) (ms : List Move) (z : ℕ) → Shows p ms → z < 2 ^ 32 → bitAnd (mask (hits p (begin p) ms)) z ≡ 0 → Does-it p (spots z) → ⊥
-fails-turned p ms z bad l e = fails p ms z bad l (and-comm z (mask (hits p (begin p) ms)) ∙ e)
+pub fails-turned : (p : Prog) (ms : List Move) (z : ℕ) → Shows p ms → z < 2 ^ 32 → bit_and (mask (hits p (begin p) ms)) z ≡ 0 → Does-it p (spots z) → ⊥
+fails-turned p ms z bad l e = fails p ms z bad l (and_comm z (mask (hits p (begin p) ms)) ∙ e)
 
 -- what misses one of the clauses learnt doesn't work
 pub learnt-none : (p : Prog) (cs : List ℕ) → Learnt-masks p cs 0
 learnt-none p cs k h = absurd (omega arith)
 
-pub learnt-fails : (p : Prog) (cs : List ℕ) (len k z : ℕ) → Learnt-masks p cs len → k < len → bitAnd z (getD cs k 0) ≡ 0 → z < 2 ^ 32 → Does-it p (spots z) → ⊥
+pub learnt-fails : (p : Prog) (cs : List ℕ) (len k z : ℕ) → Learnt-masks p cs len → k < len → bit_and z (get_or cs k 0) ≡ 0 → z < 2 ^ 32 → Does-it p (spots z) → ⊥
 learnt-fails p cs len k z learnt h e l =
     let (ms, bad, is) = learnt k h in
-    fails p ms z bad l (ap (bitAnd z) (sym is) ∙ e)
+    fails p ms z bad l (ap (bit_and z) (sym is) ∙ e)
 
 -- all clauses of a list are learnt
 pub misses-fails : (p : Prog) (cs : List ℕ) (z : ℕ) → Learnt-masks p cs (length cs) → Misses cs z → z < 2 ^ 32 → Does-it p (spots z) → ⊥
@@ -109,7 +101,7 @@ pub learnt-slice : (p : Prog) (cs : List ℕ) (len : ℕ) → len ≤ length cs 
 learnt-slice p cs len le learnt k h =
     let n = length-take-le len cs le in
     let (ms, bad, is) = learnt k (omega arith) in
-    (ms, bad, getD-take len cs k 0 (omega arith) ∙ is)
+    (ms, bad, get_or-take len cs k 0 (omega arith) ∙ is)
 
 pub slice-fails : (p : Prog) (cs : List ℕ) (len z : ℕ) → len ≤ length cs → Learnt-masks p cs len → Misses (take len cs) z → z < 2 ^ 32 → Does-it p (spots z) → ⊥
 slice-fails p cs len z le learnt = misses-fails p (take len cs) z (learnt-slice p cs len le learnt)
@@ -117,11 +109,11 @@ slice-fails p cs len z le learnt = misses-fails p (take len cs) z (learnt-slice 
 -- one clause more
 pub learnt-more : (p : Prog) (cs : List ℕ) (len c : ℕ) (ms : List Move) → len < length cs → Learnt-masks p cs len → Shows p ms → c ≡ mask (hits p (begin p) ms) → Learnt-masks p (set cs len c) (len + 1)
 learnt-more p cs len c ms le learnt bad is k h =
-    elim (cases-eq k len) [
-      | inl e ↦ (ms, bad, ap (λ (i : ℕ). getD (set cs len c) i 0) e ∙ getD-set-same cs len c 0 le ∙ is)
+    elim (cases_eq k len) [
+      | inl e ↦ (ms, bad, ap (λ (i : ℕ). get_or (set cs len c) i 0) e ∙ get_or-set_same cs len c 0 le ∙ is)
       | inr n ↦
           let (ks, b, i) = learnt k (omega arith) in
-          (ks, b, getD-set-other cs len k c 0 n ∙ i)
+          (ks, b, get_or-set_other cs len k c 0 n ∙ i)
     ]
 
 -- the search begins
@@ -133,31 +125,31 @@ start p z l w (inr (e, h)) d = omega arith
 pub more-bits : (p : Prog) (bits from : ℕ) → Earlier-fail p bits from → ((z : ℕ) → z < 2 ^ 32 → Within z (every-spot p) → ones z ≡ bits → z ≤ from → Does-it p (spots z) → ⊥) → Earlier-fail p (bits + 1) (2 ^ 32 - 1)
 more-bits p bits from f g z l w (inr (e, h)) d = omega arith
 more-bits p bits from f g z l w (inl h) d =
-    elim (cases-lt (ones z) bits) [
+    elim (cases_lt (ones z) bits) [
       | inl a ↦ f z l w (inl a) d
       | inr a ↦
           let e : ones z ≡ bits = omega arith in
-          elim (cases-lt from z) [ inl b ↦ f z l w (inr (e, b)) d | inr b ↦ g z l w e b d ]
+          elim (cases_lt from z) [ inl b ↦ f z l w (inr (e, b)) d | inr b ↦ g z l w e b d ]
     ]
 
 -- where no candidate is left
-pub after-none : (p : Prog) (cs : List ℕ) (bits from : ℕ) → Learnt-masks p cs (length cs) → Earlier-fail p bits from → Next-or-none cs (every-spot p) bits from None → Earlier-fail p (bits + 1) (2 ^ 32 - 1)
-after-none p cs bits from learnt f none = more-bits p bits from f (λ z l w e b d. misses-fails p cs z learnt (none z b w e) l d)
+pub after_none : (p : Prog) (cs : List ℕ) (bits from : ℕ) → Learnt-masks p cs (length cs) → Earlier-fail p bits from → Next-or-none cs (every-spot p) bits from None → Earlier-fail p (bits + 1) (2 ^ 32 - 1)
+after_none p cs bits from learnt f none = more-bits p bits from f (λ z l w e b d. misses-fails p cs z learnt (none z b w e) l d)
 
 -- where x is the next
 pub after-some : (p : Prog) (cs : List ℕ) (bits from x : ℕ) → Learnt-masks p cs (length cs) → Earlier-fail p bits from → Next-or-none cs (every-spot p) bits from (Some x) → Earlier-fail p bits x
 after-some p cs bits from x learnt f next z l w (inl a) d = f z l w (inl a) d
 after-some p cs bits from x learnt f next z l w (inr (e, b)) d =
-    elim (cases-lt from z) [
+    elim (cases_lt from z) [
       | inl a ↦ f z l w (inr (e, a)) d
-      | inr a ↦ misses-fails p cs z learnt (next .first z b a w e) l d
+      | inr a ↦ misses-fails p cs z learnt (next.first z b a w e) l d
     ]
 
 -- after a look at x that found something bad
-pub go-on : (p : Prog) (bits x : ℕ) → 0 < x → (Does-it p (spots x) → ⊥) → Earlier-fail p bits x → Earlier-fail p bits (x - 1)
-go-on p bits x h bad f z l w (inl a) d = f z l w (inl a) d
-go-on p bits x h bad f z l w (inr (e, b)) d =
-    elim (cases-eq z x) [
+pub go_on : (p : Prog) (bits x : ℕ) → 0 < x → (Does-it p (spots x) → ⊥) → Earlier-fail p bits x → Earlier-fail p bits (x - 1)
+go_on p bits x h bad f z l w (inl a) d = f z l w (inl a) d
+go_on p bits x h bad f z l w (inr (e, b)) d =
+    elim (cases_eq z x) [
       | inl s ↦ bad (subst (λ (y : ℕ). Does-it p (spots y)) s d)
       | inr n ↦ f z l w (inr (e, omega arith)) d
     ]
@@ -174,8 +166,8 @@ found p x h l f d = fewest-by-masks p x h l d f
 -- the next candidate works
 pub found-next : (p : Prog) (cs : List ℕ) (bits from x : ℕ) → T (ok p) → x < 2 ^ 32 → Learnt-masks p cs (length cs) → Earlier-fail p bits from → Next-or-none cs (every-spot p) bits from (Some x) → Nothing-bad p x → Fewest p (spots x)
 found-next p cs bits from x h l learnt f next good =
-    let e = next .candidate .size in
-    found p x h l (subst (λ (b : ℕ). Earlier-fail p b x) (sym e) (after-some p cs bits from x learnt f next)) (works p x h l (next .candidate .within) good)
+    let e = next.candidate.size in
+    found p x h l (subst (λ (b : ℕ). Earlier-fail p b x) (sym e) (after-some p cs bits from x learnt f next)) (works p x h l next.candidate.within good)
 
 -- with more bits than there are spots, none is left
 pub ends : (p : Prog) (bits from : ℕ) → T (ok p) → 32 < bits → Earlier-fail p bits from → ⊥
@@ -185,18 +177,18 @@ ends p bits from h many f =
     f x l w (inl (omega arith)) d
 
 -- a clause kept or left out
-pub kept-learnt : (p : Prog) (cs cs′ : List ℕ) (len c r : ℕ) (ms : List Move) → Kept-or-not cs len c cs′ r → len ≤ length cs → Learnt-masks p cs len → Shows p ms → c ≡ mask (hits p (begin p) ms) → (r ≤ length cs′) × Learnt-masks p cs′ r
-kept-learnt p cs cs′ len c r ms k h l s e =
+pub kept-learnt : (p : Prog) (cs cs' : List ℕ) (len c r : ℕ) (ms : List Move) → Kept-or-not cs len c cs' r → len ≤ length cs → Learnt-masks p cs len → Shows p ms → c ≡ mask (hits p (begin p) ms) → (r ≤ length cs') × Learnt-masks p cs' r
+kept-learnt p cs cs' len c r ms k h l s e =
     elim k [
       | inl a ↦
-          let b : r ≤ length cs = let z = a .0 in omega arith in (
-            subst (λ (x : List ℕ). r ≤ length x) (sym (a .1)) b,
-            subst (λ (x : List ℕ). Learnt-masks p x r) (sym (a .1)) (subst (λ (x : ℕ). Learnt-masks p cs x) (sym (a .0)) l),
+          let b : r ≤ length cs = let z = a.0 in omega arith in (
+            subst (λ (x : List ℕ). r ≤ length x) (sym a.1) b,
+            subst (λ (x : List ℕ). Learnt-masks p x r) (sym a.1) (subst (λ (x : ℕ). Learnt-masks p cs x) (sym a.0) l),
           )
       | inr a ↦
           let n = length-set cs len c in
-          let b : r ≤ length (set cs len c) = let z = a .1 in let y = a .0 in omega arith in (
-            subst (λ (x : List ℕ). r ≤ length x) (sym (a .2)) b,
-            subst (λ (x : List ℕ). Learnt-masks p x r) (sym (a .2)) (subst (λ (x : ℕ). Learnt-masks p (set cs len c) x) (sym (a .1)) (learnt-more p cs len c ms (a .0) l s e)),
+          let b : r ≤ length (set cs len c) = let z = a.1 in let y = a.0 in omega arith in (
+            subst (λ (x : List ℕ). r ≤ length x) (sym a.2) b,
+            subst (λ (x : List ℕ). Learnt-masks p x r) (sym a.2) (subst (λ (x : ℕ). Learnt-masks p (set cs len c) x) (sym a.1) (learnt-more p cs len c ms a.0 l s e)),
           )
     ]

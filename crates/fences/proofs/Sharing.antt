@@ -1,20 +1,17 @@
 -- Sharing lent words out: each state takes its words, its edges' words, one for where it was come to from, and two for
 -- the table.
-use mathlib.Core.Path.{_≡_}
-use Prim.Native.Nat.{ℕ, _+_, _*_, _-_, _/_, _%_, _<_, _≤_}
-use native.Mathlib.Nat.{mul-le-mul-left, mul-le-mul-right}
-use native.Mathlib.Omega.{arith}
-use Rattle·std.proofs.shelf.Bits.{div-add-mod', le-div}
-use Rattle·fences·specs.Sizes.{Shares}
+use Rattle.std.proofs.Common.{◌≡◌, ℕ, ◌+◌, ◌-◌, ◌*◌, ◌/◌, ◌%◌, ◌<◌, ◌≤◌, mul-le-mul_right, mul-le-mul_left, arith}
+use Rattle.std.proofs.lemmas.Nat.{div-add-mod', le-div}
+use Rattle.fences.specs.Sizes.{Shares}
 
 -- so many words for each state
 pub shares : (n words limit : ℕ) → n ≤ 4 → 65536 ≤ words → limit * (5 * n + 4) ≤ words - 8192 → 0 < limit → limit < 4294967296 → ((m : ℕ) → m < 4294967296 → 65536 + 128 * (m + 1) ≤ words → m ≤ limit) → Shares n words limit
-shares n words limit few lent h some told most = record { some-fit = some; told = told; most = most; fits = omega arith }
+shares n words limit few lent h some told most = record { some_fit = some; told = told; most = most; fits = omega arith }
 
 fits-at-least : (n words : ℕ) → n ≤ 4 → (m : ℕ) → 65536 + 128 * (m + 1) ≤ words → m ≤ (words - 8192) / (5 * n + 4)
 fits-at-least n words few m h =
     let k : 5 * n + 4 ≤ 24 = omega arith in
-    let a = mul-le-mul-left m k in
+    let a = mul-le-mul_left m k in
     le-div m (words - 8192) (5 * n + 4) (omega arith) (omega arith)
 
 -- as many as fit
@@ -30,5 +27,5 @@ pub shares-most : (n words : ℕ) → n ≤ 4 → 65536 ≤ words → 4294967295
 shares-most n words few lent h =
     let q = (words - 8192) / (5 * n + 4) in
     let a = div-add-mod' (words - 8192) (5 * n + 4) in
-    let b = mul-le-mul-right (5 * n + 4) h in
+    let b = mul-le-mul_right (5 * n + 4) h in
     shares n words 4294967295 few lent (omega arith) (omega arith) (omega arith) (λ m s l. omega arith)

@@ -1,26 +1,20 @@
 -- Moves and spots told in words, one after another.
-use mathlib.Core.Path.{_≡_, refl, sym, ap, subst, _∙_}
-use mathlib.Core.Logic.{inl, inr}
-use mathlib.Core.List.{List, [], _∷_, _++_, map, append-assoc, append-nil}
-use Prim.Native.Nat.{ℕ, zero, suc, _+_, _*_, _-_, _/_, _%_, _^_, _<_, _≤_}
-use native.Mathlib.Numerals.{add-one}
-use native.Mathlib.Omega.{arith}
-use lib.ListN.{length, length-append, getD, take, drop, set}
-use lib.Pow.{mod-mod-pow, pow-pos}
-use Rattle·std.proofs.shelf.Lists.{map-append, map-more, take-more-set, drop-set-lt, length-set, length-map}
-use Rattle·std.proofs.shelf.Bits.{mod-below}
-use Rattle·std.proofs.shelf.Tests.{cases-eq}
-use Rattle·model.specs.Machine.{Move, next, out}
-use Rattle·model.specs.Fences.{Spot}
-use Rattle·explore.specs.Found.{move-of}
-use Rattle·hitting.specs.Masks.{bit}
-use Rattle·hitting.specs.Spots as hit
-use Rattle·hitting.specs.Spots.{with-spot, spots-of}
-use Rattle·hitting.proofs.Bits.{bit-is, bit-lt, bit-low, bit-high}
-use Rattle·report.proofs.Written.{drop-further}
-use Rattle·spots.specs.Masks.{spot-of, spots}
-use Rattle·fences·specs.Rows.{Wrote}
-use Rattle·fences·specs.Told.{text-ms, text-ss}
+use Rattle.std.proofs.Common.{◌≡◌, ℕ, zero, suc, ◌+◌, ◌-◌, ◌*◌, ◌/◌, ◌%◌, ◌^◌, ◌<◌, ◌≤◌, List, [], ◌∷◌, ◌++◌, map, length, get_or, take, drop, set, sym, refl, ap, ◌∙◌, subst, inl, inr, append_assoc, append-nil, add-one, arith, length-append, pow_pos}
+use lib.Pow.{mod-mod-pow}
+use Rattle.std.proofs.lemmas.List.{map-append, map_more, take_more_set, drop-set-lt, length-set, length-map}
+use Rattle.std.proofs.lemmas.Nat.{mod_below}
+use Rattle.std.proofs.lemmas.Bool.{cases_eq}
+use Rattle.model.specs.Machine.{Move, next, out}
+use Rattle.model.specs.Fences.{Spot}
+use Rattle.explore.specs.Found.{move-of}
+use Rattle.hitting.specs.Masks.{bit}
+use Rattle.hitting.specs.Spots as hit
+use Rattle.hitting.specs.Spots.{with-spot, spots-of}
+use Rattle.hitting.proofs.Bits.{bit_is, bit-lt, bit-low, bit_high}
+use Rattle.report.proofs.Written.{drop-further}
+use Rattle.spots.specs.Masks.{spot_of, spots}
+use Rattle.fences.specs.Rows.{Wrote}
+use Rattle.fences.specs.Told.{text-ms, text-ss}
 
 -- one move more
 ms-append : (ms ns : List Move) → text-ms (ms ++ ns) ≡ text-ms ms ++ text-ms ns
@@ -28,38 +22,38 @@ ms-append [] ns = refl
 ms-append (next n ∷ ms) ns = ap (λ (z : List ℕ). n ∷ z) (ms-append ms ns)
 ms-append (out n ∷ ms) ns = ap (λ (z : List ℕ). (4 + n) ∷ z) (ms-append ms ns)
 
-pub move-more : (n k w : ℕ) (path o : List ℕ) → k < length path → k < length o → text-ms (move-of n (getD path k 0) ∷ []) ≡ w ∷ [] → take k o ≡ text-ms (map (move-of n) (take k path)) → take (k + 1) (set o k w) ≡ text-ms (map (move-of n) (take (k + 1) path))
+pub move-more : (n k w : ℕ) (path o : List ℕ) → k < length path → k < length o → text-ms (move-of n (get_or path k 0) ∷ []) ≡ w ∷ [] → take k o ≡ text-ms (map (move-of n) (take k path)) → take (k + 1) (set o k w) ≡ text-ms (map (move-of n) (take (k + 1) path))
 move-more n k w path o h l e i =
-    take-more-set o k w l
+    take_more_set o k w l
     ∙ ap (λ (z : List ℕ). z ++ w ∷ []) i
     ∙ ap (λ (z : List ℕ). text-ms (map (move-of n) (take k path)) ++ z) (sym e)
-    ∙ sym (ms-append (map (move-of n) (take k path)) (move-of n (getD path k 0) ∷ []))
-    ∙ sym (ap text-ms (map-more (move-of n) path k 0 h))
+    ∙ sym (ms-append (map (move-of n) (take k path)) (move-of n (get_or path k 0) ∷ []))
+    ∙ sym (ap text-ms (map_more (move-of n) path k 0 h))
 
 -- the spots at positions below s
-abbrev pub up-to : ℕ → ℕ → List ℕ
-up-to x zero = []
-up-to x (suc s) = up-to x s ++ with-spot (bit x (31 - s)) s []
+abbrev pub up_to : ℕ → ℕ → List ℕ
+up_to x zero = []
+up_to x (suc s) = up_to x s ++ with-spot (bit x (31 - s)) s []
 
-with-append : (d s : ℕ) (ss : List ℕ) → with-spot d s ss ≡ with-spot d s [] ++ ss
-with-append zero s ss = refl
-with-append (suc d) s ss = refl
+with_append : (d s : ℕ) (ss : List ℕ) → with-spot d s ss ≡ with-spot d s [] ++ ss
+with_append zero s ss = refl
+with_append (suc d) s ss = refl
 
 -- the highest of n + 1 bits, then the others
 spots-step : (n s x : ℕ) → hit.spots (suc n) s (x % 2 ^ suc n) ≡ with-spot (bit x n) s [] ++ hit.spots n (suc s) (x % 2 ^ n)
 unfolding hit.spots
 spots-step n s x =
     let y = x % 2 ^ suc n in
-    let h : y < 2 ^ suc n = mod-below x (2 ^ suc n) (pow-pos (suc n)) in
-    let d : y / 2 ^ n ≡ bit x n = sym (bit-high n y h) ∙ bit-low (suc n) x n (omega arith) in
+    let h : y < 2 ^ suc n = mod_below x (2 ^ suc n) (pow_pos (suc n)) in
+    let d : y / 2 ^ n ≡ bit x n = sym (bit_high n y h) ∙ bit-low (suc n) x n (omega arith) in
     let q : suc n ≡ 1 + n = omega arith in
     let m : y % 2 ^ n ≡ x % 2 ^ n = ap (λ (k : ℕ). x % 2 ^ k % 2 ^ n) q ∙ mod-mod-pow x 1 n in
     ap (λ (k : ℕ). with-spot k s (hit.spots n (suc s) (y % 2 ^ n))) d
     ∙ ap (λ (k : ℕ). with-spot (bit x n) s (hit.spots n (suc s) k)) m
-    ∙ with-append (bit x n) s (hit.spots n (suc s) (x % 2 ^ n))
+    ∙ with_append (bit x n) s (hit.spots n (suc s) (x % 2 ^ n))
 
 -- those below s, and then those of the n bits left, are all
-all-spots : (x : ℕ) (s n : ℕ) → n + s ≡ 32 → x < 2 ^ 32 → up-to x s ++ hit.spots n s (x % 2 ^ n) ≡ spots-of x
+all-spots : (x : ℕ) (s n : ℕ) → n + s ≡ 32 → x < 2 ^ 32 → up_to x s ++ hit.spots n s (x % 2 ^ n) ≡ spots-of x
 unfolding spots-of
 all-spots x zero n e h =
     let q : n ≡ 32 = omega arith in
@@ -67,28 +61,28 @@ all-spots x zero n e h =
     ap (λ (k : ℕ). hit.spots k 0 (x % 2 ^ k)) q ∙ ap (λ (z : ℕ). hit.spots 32 0 z) r
 all-spots x (suc s) n e h =
     let q : 31 - s ≡ n = omega arith in
-    append-assoc (up-to x s) (with-spot (bit x (31 - s)) s []) (hit.spots n (suc s) (x % 2 ^ n))
-    ∙ ap (λ (k : ℕ). up-to x s ++ (with-spot (bit x k) s [] ++ hit.spots n (suc s) (x % 2 ^ n))) q
-    ∙ ap (λ (z : List ℕ). up-to x s ++ z) (sym (spots-step n s x))
+    append_assoc (up_to x s) (with-spot (bit x (31 - s)) s []) (hit.spots n (suc s) (x % 2 ^ n))
+    ∙ ap (λ (k : ℕ). up_to x s ++ (with-spot (bit x k) s [] ++ hit.spots n (suc s) (x % 2 ^ n))) q
+    ∙ ap (λ (z : List ℕ). up_to x s ++ z) (sym (spots-step n s x))
     ∙ all-spots x s (suc n) (omega arith) h
 
-none-left : (s x : ℕ) → hit.spots 0 s x ≡ []
+none_left : (s x : ℕ) → hit.spots 0 s x ≡ []
 unfolding hit.spots
-none-left s x = refl
+none_left s x = refl
 
-up-to-all : (x s : ℕ) → s ≡ 32 → x < 2 ^ 32 → up-to x s ≡ spots-of x
+up-to-all : (x s : ℕ) → s ≡ 32 → x < 2 ^ 32 → up_to x s ≡ spots-of x
 up-to-all x s e h =
-    sym (append-nil (up-to x s)) ∙ ap (λ (z : List ℕ). up-to x s ++ z) (sym (none-left s (x % 2 ^ 0))) ∙ all-spots x s 0 (omega arith) h
+    sym (append-nil (up_to x s)) ∙ ap (λ (z : List ℕ). up_to x s ++ z) (sym (none_left s (x % 2 ^ 0))) ∙ all-spots x s 0 (omega arith) h
 
 with-short : (d s : ℕ) → length (with-spot d s []) ≤ 1
 with-short zero s = omega arith
 with-short (suc d) s = omega arith
 
-up-to-short : (x s : ℕ) → length (up-to x s) ≤ s
+up-to-short : (x s : ℕ) → length (up_to x s) ≤ s
 up-to-short x zero = omega arith
 up-to-short x (suc s) =
     let i = up-to-short x s in
-    let e = length-append (up-to x s) (with-spot (bit x (31 - s)) s []) in
+    let e = length-append (up_to x s) (with-spot (bit x (31 - s)) s []) in
     let w = with-short (bit x (31 - s)) s in
     omega arith
 
@@ -99,36 +93,36 @@ length-ss (s ∷ ss) = let i = length-ss ss in omega arith
 
 ss-append : (ss ts : List Spot) → text-ss (ss ++ ts) ≡ text-ss ss ++ text-ss ts
 ss-append [] ts = refl
-ss-append (s ∷ ss) ts = ap (λ (z : List ℕ). s .thread ∷ s .index ∷ z) (ss-append ss ts)
+ss-append (s ∷ ss) ts = ap (λ (z : List ℕ). s.thread ∷ s.index ∷ z) (ss-append ss ts)
 
 -- the words of positions
-abbrev pub text-at : List ℕ → List ℕ
-text-at ps = text-ss (map spot-of ps)
+abbrev pub text_at : List ℕ → List ℕ
+text_at ps = text-ss (map spot_of ps)
 
-length-at : (ps : List ℕ) → length (text-at ps) ≡ 2 * length ps
-length-at ps = length-ss (map spot-of ps) ∙ ap (λ (k : ℕ). 2 * k) (length-map ps spot-of)
+length_at : (ps : List ℕ) → length (text_at ps) ≡ 2 * length ps
+length_at ps = length-ss (map spot_of ps) ∙ ap (λ (k : ℕ). 2 * k) (length-map ps spot_of)
 
-at-append : (ps qs : List ℕ) → text-at (ps ++ qs) ≡ text-at ps ++ text-at qs
-at-append ps qs = ap text-ss (map-append spot-of ps qs) ∙ ss-append (map spot-of ps) (map spot-of qs)
+at-append : (ps qs : List ℕ) → text_at (ps ++ qs) ≡ text_at ps ++ text_at qs
+at-append ps qs = ap text-ss (map-append spot_of ps qs) ∙ ss-append (map spot_of ps) (map spot_of qs)
 
 -- nothing written, words written after others, and one spot
-wrote-nothing : (o : List ℕ) (at : ℕ) → Wrote [] o o at at
-wrote-nothing o at = record { long = omega arith; written = sym (append-nil (take at o)); behind = refl }
+wrote_nothing : (o : List ℕ) (at : ℕ) → Wrote [] o o at at
+wrote_nothing o at = record { long = omega arith; written = sym (append-nil (take at o)); behind = refl }
 
-wrote-then : (ws vs o o₁ o₂ : List ℕ) (at mid end : ℕ) → Wrote ws o o₁ at mid → Wrote vs o₁ o₂ mid end → Wrote (ws ++ vs) o o₂ at end
-wrote-then ws vs o o₁ o₂ at mid end a b =
+wrote_then : (ws vs o o₁ o₂ : List ℕ) (at mid end : ℕ) → Wrote ws o o₁ at mid → Wrote vs o₁ o₂ mid end → Wrote (ws ++ vs) o o₂ at end
+wrote_then ws vs o o₁ o₂ at mid end a b =
     let l = length-append ws vs in
-    let p = a .long in
-    let q = b .long in
+    let p = a.long in
+    let q = b.long in
     record {
       long = omega arith;
-      written = b .written ∙ ap (λ (z : List ℕ). z ++ vs) (a .written) ∙ append-assoc (take at o) ws vs;
-      behind = b .behind ∙ drop-further mid end o₁ o (omega arith) (a .behind);
+      written = b.written ∙ ap (λ (z : List ℕ). z ++ vs) a.written ∙ append_assoc (take at o) ws vs;
+      behind = b.behind ∙ drop-further mid end o₁ o (omega arith) a.behind;
     }
 
-pub wrote-no-spot : (x s : ℕ) (o : List ℕ) (at : ℕ) → x / 2 ^ (31 - s) % 2 ≡ 0 → Wrote (text-at (with-spot (bit x (31 - s)) s [])) o o at at
+pub wrote-no-spot : (x s : ℕ) (o : List ℕ) (at : ℕ) → x / 2 ^ (31 - s) % 2 ≡ 0 → Wrote (text_at (with-spot (bit x (31 - s)) s [])) o o at at
 wrote-no-spot x s o at e =
-    subst (λ (d : ℕ). Wrote (text-at (with-spot d s [])) o o at at) (sym (bit-is x (31 - s) ∙ e)) (wrote-nothing o at)
+    subst (λ (d : ℕ). Wrote (text_at (with-spot d s [])) o o at at) (sym (bit_is x (31 - s) ∙ e)) (wrote_nothing o at)
 
 wrote-two : (a b at : ℕ) (o : List ℕ) → at + 2 ≤ length o → Wrote (a ∷ b ∷ []) o (set (set o at a) (at + 1) b) at (at + 2)
 wrote-two a b at o h =
@@ -137,53 +131,53 @@ wrote-two a b at o h =
     record {
       long = refl;
       written = ap (λ (k : ℕ). take k (set (set o at a) (at + 1) b)) p
-          ∙ take-more-set (set o at a) (at + 1) b (omega arith)
-          ∙ ap (λ (z : List ℕ). z ++ b ∷ []) (take-more-set o at a (omega arith))
-          ∙ append-assoc (take at o) (a ∷ []) (b ∷ []);
+          ∙ take_more_set (set o at a) (at + 1) b (omega arith)
+          ∙ ap (λ (z : List ℕ). z ++ b ∷ []) (take_more_set o at a (omega arith))
+          ∙ append_assoc (take at o) (a ∷ []) (b ∷ []);
       behind = drop-set-lt (at + 2) (set o at a) (at + 1) b (omega arith) ∙ drop-set-lt (at + 2) o at a (omega arith);
     }
 
-pub wrote-spot : (x s : ℕ) (o : List ℕ) (at : ℕ) → at + 2 ≤ length o → (x / 2 ^ (31 - s) % 2 ≡ 0 → ⊥) → Wrote (text-at (with-spot (bit x (31 - s)) s [])) o (set (set o at (s / 8)) (at + 1) (s % 8)) at (at + 2)
+pub wrote-spot : (x s : ℕ) (o : List ℕ) (at : ℕ) → at + 2 ≤ length o → (x / 2 ^ (31 - s) % 2 ≡ 0 → ⊥) → Wrote (text_at (with-spot (bit x (31 - s)) s [])) o (set (set o at (s / 8)) (at + 1) (s % 8)) at (at + 2)
 wrote-spot x s o at h n =
-    let i = bit-is x (31 - s) in
+    let i = bit_is x (31 - s) in
     let l = bit-lt x (31 - s) in
-    let e : 1 ≡ bit x (31 - s) = elim (cases-eq (bit x (31 - s)) 0) [ inl z ↦ absurd (n (sym i ∙ z)) | inr p ↦ omega arith ] in
-    subst (λ (d : ℕ). Wrote (text-at (with-spot d s [])) o (set (set o at (s / 8)) (at + 1) (s % 8)) at (at + 2)) e
+    let e : 1 ≡ bit x (31 - s) = elim (cases_eq (bit x (31 - s)) 0) [ inl z ↦ absurd (n (sym i ∙ z)) | inr p ↦ omega arith ] in
+    subst (λ (d : ℕ). Wrote (text_at (with-spot d s [])) o (set (set o at (s / 8)) (at + 1) (s % 8)) at (at + 2)) e
     (wrote-two (s / 8) (s % 8) at o h)
 
-pub spot-more : (x s : ℕ) (o o₁ o₂ : List ℕ) (at mid end : ℕ) → Wrote (text-at (up-to x s)) o o₁ at mid → Wrote (text-at (with-spot (bit x (31 - s)) s [])) o₁ o₂ mid end → Wrote (text-at (up-to x (s + 1))) o o₂ at end
+pub spot-more : (x s : ℕ) (o o₁ o₂ : List ℕ) (at mid end : ℕ) → Wrote (text_at (up_to x s)) o o₁ at mid → Wrote (text_at (with-spot (bit x (31 - s)) s [])) o₁ o₂ mid end → Wrote (text_at (up_to x (s + 1))) o o₂ at end
 spot-more x s o o₁ o₂ at mid end a b =
     let v = with-spot (bit x (31 - s)) s [] in
-    subst (λ (k : ℕ). Wrote (text-at (up-to x k)) o o₂ at end) (sym (add-one s))
-    (subst (λ (z : List ℕ). Wrote z o o₂ at end) (sym (at-append (up-to x s) v))
-    (wrote-then (text-at (up-to x s)) (text-at v) o o₁ o₂ at mid end a b))
+    subst (λ (k : ℕ). Wrote (text_at (up_to x k)) o o₂ at end) (sym (add-one s))
+    (subst (λ (z : List ℕ). Wrote z o o₂ at end) (sym (at-append (up_to x s) v))
+    (wrote_then (text_at (up_to x s)) (text_at v) o o₁ o₂ at mid end a b))
 
-pub spot-room : (x s : ℕ) (o o₁ : List ℕ) (at mid : ℕ) → Wrote (text-at (up-to x s)) o o₁ at mid → mid ≤ at + 2 * s
+pub spot-room : (x s : ℕ) (o o₁ : List ℕ) (at mid : ℕ) → Wrote (text_at (up_to x s)) o o₁ at mid → mid ≤ at + 2 * s
 spot-room x s o o₁ at mid a =
-    let l = a .long in
-    let e = length-at (up-to x s) in
+    let l = a.long in
+    let e = length_at (up_to x s) in
     let k = up-to-short x s in
     omega arith
 
 -- all spots written
-pub record Spots-written (x : ℕ) (o o′ : List ℕ) (at r : ℕ) : Type 0 where
+pub record Spots-written (x : ℕ) (o o' : List ℕ) (at r : ℕ) : Type 0 where
   pub count : r ≡ length (spots x)
   pub few : r ≤ 32
-  pub written : take (at + 2 * r) o′ ≡ take at o ++ text-ss (spots x)
-  pub behind : drop (at + 2 * r) o′ ≡ drop (at + 2 * r) o
+  pub written : take (at + 2 * r) o' ≡ take at o ++ text-ss (spots x)
+  pub behind : drop (at + 2 * r) o' ≡ drop (at + 2 * r) o
 
-pub all-written : (x s : ℕ) (o o′ : List ℕ) (at end : ℕ) → s ≡ 32 → x < 2 ^ 32 → Wrote (text-at (up-to x s)) o o′ at end → Spots-written x o o′ at ((end - at) / 2)
-all-written x s o o′ at end e h w =
+pub all-written : (x s : ℕ) (o o' : List ℕ) (at end : ℕ) → s ≡ 32 → x < 2 ^ 32 → Wrote (text_at (up_to x s)) o o' at end → Spots-written x o o' at ((end - at) / 2)
+all-written x s o o' at end e h w =
     let u = up-to-all x s e h in
-    let l = w .long in
-    let k = length-at (up-to x s) in
+    let l = w.long in
+    let k = length_at (up_to x s) in
     let m = up-to-short x s in
     let c = ap length u in
-    let f = length-map (spots-of x) spot-of in
+    let f = length-map (spots-of x) spot_of in
     let q : at + 2 * ((end - at) / 2) ≡ end = omega arith in
     record {
       count = omega arith;
       few = omega arith;
-      written = ap (λ (n : ℕ). take n o′) q ∙ w .written ∙ ap (λ (z : List ℕ). take at o ++ text-at z) u;
-      behind = ap (λ (n : ℕ). drop n o′) q ∙ w .behind ∙ ap (λ (n : ℕ). drop n o) (sym q);
+      written = ap (λ (n : ℕ). take n o') q ∙ w.written ∙ ap (λ (z : List ℕ). take at o ++ text_at z) u;
+      behind = ap (λ (n : ℕ). drop n o') q ∙ w.behind ∙ ap (λ (n : ℕ). drop n o) (sym q);
     }

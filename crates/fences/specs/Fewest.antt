@@ -1,41 +1,34 @@
 -- What the search for the fewest fences stands on, and what its steps promise.
-use mathlib.Core.Path.{_≡_}
-use mathlib.Core.Logic.{_⊎_}
-use mathlib.Core.List.{List}
-use Prim.Native.Nat.{ℕ, _+_, _*_, _-_, _^_, _<_, _≤_}
-use lib.Bits.{bitAnd}
-use lib.ListN.{length, set}
-use Rattle·std.specs.declared.option.Option.{Option}
-use Rattle·std.specs.declared.option.Option.the-variants.{Some, None}
-use Rattle·model.specs.Code.{Prog}
-use Rattle·model.specs.Machine.{Move, begin}
-use Rattle·model.specs.Outcomes.{Shows}
-use Rattle·model.specs.Fences.{Fewest}
-use Rattle·model.specs.Guards.{hits}
-use Rattle·explore.specs.Found.{width, moves-of, Explored}
-use Rattle·guard.specs.Masks.{mask}
-use Rattle·once.specs.Once.{Marks-once}
-use Rattle·spots.specs.Masks.{spots}
-use Rattle·fences·specs.Looks.{Done-from}
-use Rattle·fences·specs.Searching.{Nothing-bad, Learnt-masks, Earlier-fail}
+use Rattle.std.specs.Prelude.{◌≡◌, ℕ, ◌+◌, ◌-◌, ◌*◌, ◌^◌, ◌<◌, ◌≤◌, ◌⊎◌, List, length, Some, None, Option, bit_and, slice_set}
+use Rattle.model.specs.Code.{Prog}
+use Rattle.model.specs.Machine.{Move, begin}
+use Rattle.model.specs.Outcomes.{Shows}
+use Rattle.model.specs.Fences.{Fewest}
+use Rattle.model.specs.Guards.{hits}
+use Rattle.explore.specs.Found.{width, moves_of, Explored}
+use Rattle.guard.specs.Masks.{mask}
+use Rattle.once.specs.Once.{Marks-once}
+use Rattle.spots.specs.Masks.{spots}
+use Rattle.fences.specs.Looks.{Done-from}
+use Rattle.fences.specs.Searching.{Nothing-bad, Learnt-masks, Earlier-fail}
 
 -- the states found with their edges, which are come to at once, and from where on they are finished
 pub record Ground (p : Prog) (q g once : List ℕ) (n first : ℕ) : Type 0 where
   pub explored : Explored p q g n
   pub marks : Marks-once p q n once
   pub held : n * width (length p) ≤ length q
-  pub kept : n * moves-of (length p) ≤ length g
+  pub kept : n * moves_of (length p) ≤ length g
   pub in-once : n ≤ length once
   pub done : Done-from p q n first
 
 -- a list tried: it works, or a clause is learnt that it misses
 abbrev pub Tried : Prog → ℕ → Option ℕ → Type 0
 Tried p x None = Nothing-bad p x
-Tried p x (Some c) = (ms : List Move) × Shows p ms × (c ≡ mask (hits p (begin p) ms)) × (bitAnd c x ≡ 0)
+Tried p x (Some c) = (ms : List Move) × Shows p ms × (c ≡ mask (hits p (begin p) ms)) × (bit_and c x ≡ 0)
 
 -- a clause kept behind the others, where there is room
 abbrev pub Kept-or-not : List ℕ → ℕ → ℕ → List ℕ → ℕ → Type 0
-Kept-or-not cs len c cs′ r = ((r ≡ len) × (cs′ ≡ cs)) ⊎ ((len < length cs) × (r ≡ len + 1) × (cs′ ≡ set cs len c))
+Kept-or-not cs len c cs' r = ((r ≡ len) × (cs' ≡ cs)) ⊎ ((len < length cs) × (r ≡ len + 1) × (cs' ≡ slice_set cs len c))
 
 -- all lists of so many fences tried: the fewest and first is found, or none of them works
 abbrev pub Round : Prog → ℕ → Option ℕ → Type 0

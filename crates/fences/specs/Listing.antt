@@ -1,10 +1,7 @@
 -- All outcomes of a program as rows: whether it also comes out at once, and the outcome.
-use mathlib.Core.Path.{_≡_}
-use mathlib.Core.Logic.{_⊎_, _↔_}
-use mathlib.Core.List.{List, [], _∷_, _++_}
-use Prim.Native.Nat.{ℕ, _≤_}
-use Rattle·model.specs.Code.{Prog}
-use Rattle·model.specs.Outcomes.{Waiting, At-once}
+use Rattle.std.specs.Prelude.{◌≡◌, ℕ, ◌≤◌, ◌⊎◌, ◌↔◌, List, [], ◌∷◌, ◌++◌, ◌≢◌}
+use Rattle.model.specs.Code.{Prog}
+use Rattle.model.specs.Outcomes.{Waiting, At-once}
 
 -- 1 where the outcome also comes out at once, else 0; and the outcome: all registers, thread by thread, then memory
 pub record Row : Type 0 where
@@ -14,13 +11,13 @@ pub record Row : Type 0 where
 -- rows one after the other, as words
 abbrev pub text : List Row → List ℕ
 text [] = []
-text (r ∷ rs) = (r .once ∷ r .outcome) ++ text rs
+text (r ∷ rs) = (r.once ∷ r.outcome) ++ text rs
 
 -- it comes out, and at once exactly if its first word says so
 pub record Right (p : Prog) (r : Row) : Type 0 where
-  pub comes-out : Waiting p (r .outcome)
-  pub bit : r .once ≤ 1
-  pub at-once : (r .once ≡ 1) ↔ At-once p (r .outcome)
+  pub comes-out : Waiting p r.outcome
+  pub bit : r.once ≤ 1
+  pub at_once : (r.once ≡ 1) ↔ At-once p r.outcome
 
 abbrev pub Every : (Row → Type 0) → List Row → Type 0
 Every P [] = Unit {0}
@@ -33,10 +30,10 @@ Some-row P (r ∷ rs) = P r ⊎ Some-row P rs
 -- no outcome twice
 abbrev pub Once-each : List Row → Type 0
 Once-each [] = Unit {0}
-Once-each (r ∷ rs) = Every (λ s. s .outcome ≡ r .outcome → ⊥) rs × Once-each rs
+Once-each (r ∷ rs) = Every (λ s. s.outcome ≢ r.outcome) rs × Once-each rs
 
 -- exactly the outcomes of a program, each once
 pub record Lists (p : Prog) (rs : List Row) : Type 0 where
   pub right : Every (Right p) rs
   pub once-each : Once-each rs
-  pub all : (o : List ℕ) → Waiting p o → Some-row (λ r. r .outcome ≡ o) rs
+  pub all : (o : List ℕ) → Waiting p o → Some-row (λ r. r.outcome ≡ o) rs

@@ -1,17 +1,13 @@
 -- What the public calls promise: for words s, at most so many states, words lent and words to write to.
-use mathlib.Core.Path.{_≡_}
-use mathlib.Core.Logic.{_↔_}
-use mathlib.Core.List.{List}
-use mathlib.Core.Option.{some}
-use Prim.Native.Nat.{ℕ, _+_, _*_, _^_, _<_, _≤_}
-use lib.ListN.{length, take, drop}
-use Rattle·model.specs.Code.{Prog, Reads}
-use Rattle·model.specs.Machine.{St, Move, moves, begin}
-use Rattle·model.specs.Theorems.{Theorems}
-use Rattle·explore.specs.Found.{Among, Different, All-come-to, Crowded}
-use Rattle·fences·specs.declared.listing.Listed.{Listed}
-use Rattle·fences·specs.declared.listing.Listed.the-variants as listed
-use Rattle·fences·specs.Listing.{Row, text, Lists}
+use Rattle.std.specs.Prelude.{◌≡◌, ℕ, ◌+◌, ◌*◌, ◌^◌, ◌<◌, ◌≤◌, ◌↔◌, List, length, take, drop}
+use Rattle.std.proofs.Math.Option.{some}
+use Rattle.model.specs.Code.{Prog, Reads}
+use Rattle.model.specs.Machine.{St, Move, moves, begin}
+use Rattle.model.specs.Theorems.{Theorems}
+use Rattle.explore.specs.Found.{Among, Different, All-come-to, Crowded}
+use Rattle.fences.specs.declared.listing.Listed.{Listed}
+use Rattle.fences.specs.declared.listing.Listed.TheVariants as listed
+use Rattle.fences.specs.Listing.{Row, text, Lists}
 
 -- runs come to exactly so many states
 abbrev pub States : Prog → ℕ → Type 0
@@ -19,30 +15,30 @@ States p n = (q : List St) × All-come-to p q × Different q × ((ms : List Move
 
 -- what is said of a program p whose states are found
 abbrev pub ListedFound : Prog → List ℕ → List ℕ → Listed → Type 0
-ListedFound p o o′ (listed.Outcomes k n) = (rs : List Row) × Lists p rs × States p n × (k ≡ length rs) × (take (length (text rs)) o′ ≡ text rs) × (drop (length (text rs)) o′ ≡ drop (length (text rs)) o)
-ListedFound p o o′ listed.OutFull = (rs : List Row) × Lists p rs × (length o < length (text rs)) × (o′ ≡ o)
-ListedFound p o o′ listed.Crowded = ⊥
-ListedFound p o o′ listed.NoProgram = ⊥
-ListedFound p o o′ listed.Few = ⊥
+ListedFound p o o' (listed.Outcomes k n) = (rs : List Row) × Lists p rs × States p n × (k ≡ length rs) × (take (length (text rs)) o' ≡ text rs) × (drop (length (text rs)) o' ≡ drop (length (text rs)) o)
+ListedFound p o o' listed.OutFull = (rs : List Row) × Lists p rs × (length o < length (text rs)) × (o' ≡ o)
+ListedFound p o o' listed.Crowded = ⊥
+ListedFound p o o' listed.NoProgram = ⊥
+ListedFound p o o' listed.Few = ⊥
 
 -- what is said of a program p with w words lent
 abbrev pub ListedOf : Prog → ℕ → List ℕ → List ℕ → Listed → Type 0
-ListedOf p w o o′ (listed.Outcomes k n) = (rs : List Row) × Lists p rs × States p n × (k ≡ length rs) × (take (length (text rs)) o′ ≡ text rs) × (drop (length (text rs)) o′ ≡ drop (length (text rs)) o)
-ListedOf p w o o′ listed.Crowded = ((m : ℕ) → m < 2 ^ 32 → 65536 + 128 * (m + 1) ≤ w → Crowded p m) × (o′ ≡ o)
-ListedOf p w o o′ listed.OutFull = (rs : List Row) × Lists p rs × (length o < length (text rs)) × (o′ ≡ o)
-ListedOf p w o o′ listed.NoProgram = ⊥
-ListedOf p w o o′ listed.Few = ⊥
+ListedOf p w o o' (listed.Outcomes k n) = (rs : List Row) × Lists p rs × States p n × (k ≡ length rs) × (take (length (text rs)) o' ≡ text rs) × (drop (length (text rs)) o' ≡ drop (length (text rs)) o)
+ListedOf p w o o' listed.Crowded = ((m : ℕ) → m < 2 ^ 32 → 65536 + 128 * (m + 1) ≤ w → Crowded p m) × (o' ≡ o)
+ListedOf p w o o' listed.OutFull = (rs : List Row) × Lists p rs × (length o < length (text rs)) × (o' ≡ o)
+ListedOf p w o o' listed.NoProgram = ⊥
+ListedOf p w o o' listed.Few = ⊥
 
 -- 'outcomes'
 abbrev pub ListedSays : List ℕ → ℕ → List ℕ → List ℕ → Listed → Type 0
-ListedSays s most o o′ (listed.Outcomes k n) = (p : Prog) × (rs : List Row) × Reads s p × Lists p rs × States p n × (k ≡ length rs) × (take (length (text rs)) o′ ≡ text rs) × (drop (length (text rs)) o′ ≡ drop (length (text rs)) o)
-ListedSays s most o o′ listed.Crowded = (p : Prog) × Reads s p × Crowded p most × (o′ ≡ o)
-ListedSays s most o o′ listed.OutFull = (p : Prog) × (rs : List Row) × Reads s p × Lists p rs × (length o < length (text rs)) × (o′ ≡ o)
-ListedSays s most o o′ listed.NoProgram = ((p : Prog) → Reads s p → ⊥) × (o′ ≡ o)
-ListedSays s most o o′ listed.Few = o′ ≡ o
+ListedSays s most o o' (listed.Outcomes k n) = (p : Prog) × (rs : List Row) × Reads s p × Lists p rs × States p n × (k ≡ length rs) × (take (length (text rs)) o' ≡ text rs) × (drop (length (text rs)) o' ≡ drop (length (text rs)) o)
+ListedSays s most o o' listed.Crowded = (p : Prog) × Reads s p × Crowded p most × (o' ≡ o)
+ListedSays s most o o' listed.OutFull = (p : Prog) × (rs : List Row) × Reads s p × Lists p rs × (length o < length (text rs)) × (o' ≡ o)
+ListedSays s most o o' listed.NoProgram = ((p : Prog) → Reads s p → ⊥) × (o' ≡ o)
+ListedSays s most o o' listed.Few = o' ≡ o
 
 -- the theorems stand with the promise, so that the gate asks for them
-pub record ListedPost (s : List ℕ) (most w : ℕ) (o o′ : List ℕ) (r : Listed) : Type 0 where
-  pub says : ListedSays s most o o′ r
+pub record ListedPost (s : List ℕ) (most w : ℕ) (o o' : List ℕ) (r : Listed) : Type 0 where
+  pub says : ListedSays s most o o' r
   pub theorems : Theorems
   pub few : (w < 65536 + 128 * (most + 1)) ↔ (r ≡ listed.Few)

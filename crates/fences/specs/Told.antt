@@ -1,8 +1,7 @@
 -- What is told in words: the moves of a run, and spots for fences.
-use mathlib.Core.List.{List, [], _∷_}
-use Prim.Native.Nat.{ℕ, _+_}
-use Rattle·model.specs.Machine.{Move, next, out}
-use Rattle·model.specs.Fences.{Spot}
+use Rattle.std.specs.Prelude.{ℕ, ◌+◌, List, [], ◌∷◌}
+use Rattle.model.specs.Machine.{Move, next, out}
+use Rattle.model.specs.Fences.{Spot}
 
 -- a word for each move: the thread whose instruction is next, or 4 more than the thread whose oldest store goes to memory
 abbrev pub text-ms : List Move → List ℕ
@@ -13,4 +12,4 @@ text-ms (out n ∷ ms) = (4 + n) ∷ text-ms ms
 -- two words for each spot: its thread, and the instruction that the fence stands before
 abbrev pub text-ss : List Spot → List ℕ
 text-ss [] = []
-text-ss (s ∷ ss) = s .thread ∷ s .index ∷ text-ss ss
+text-ss (s ∷ ss) = s.thread ∷ s.index ∷ text-ss ss

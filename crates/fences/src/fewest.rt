@@ -1,34 +1,31 @@
 // The fewest fences. Lists of fences are bits of a u32, gone through by their length, within a length from the first list
 // on. A list that misses a clause is skipped: a clause is what a bad run passes while something waits, so a list without
 // any of it leaves that run. What meets all clauses is looked at; a failed look gives one clause more.
-ghost use mathlib.Core.Path.{_≡_};
-ghost use mathlib.Core.List.{List};
-ghost use Prim.Native.Nat.{ℕ, _+_, _*_, _-_, _^_, _<_, _≤_};
-ghost use lib.ListN.{length, take};
-ghost use Rattle·hitting.specs.Post.{Next-or-none};
-ghost use Rattle·model.specs.Fences.{Fewest as FewestFences};
-ghost use Rattle·program.specs.Meaning.{program};
-ghost use Rattle·spots.specs.Masks.{every-spot, spots};
-ghost use Rattle·fences·specs.Searching.{Learnt-masks, Earlier-fail};
-ghost use Rattle·fences·specs.Fewest.{Ground, Tried, Kept-or-not, Gone-through};
-use crate::looks::learn;
-use crate::looks::look_at;
+ghost use Rattle.std.specs.Prelude.{◌≡◌, ℕ, ◌+◌, ◌-◌, ◌*◌, ◌^◌, ◌<◌, ◌≤◌, List, length, take};
+ghost use Rattle.hitting.specs.Post.{Next-or-none};
+ghost use Rattle.model.specs.Fences.{Fewest as FewestFences};
+ghost use Rattle.program.specs.Meaning.{program};
+ghost use Rattle.spots.specs.Masks.{every-spot, spots};
+ghost use Rattle.fences.specs.Searching.{Learnt-masks, Earlier-fail};
+ghost use Rattle.fences.specs.Fewest.{Ground, Tried, Kept-or-not, Gone-through};
+
+use crate::looks::{learn, look_at};
 use hitting::candidates::next_candidate;
 use program::threads::Program;
 use spots::every_spot;
 
 // The next list of so many fences that meets the first `len` clauses.
 fn candidate(clauses: &[u32], len: usize, among: u32, bits: u32, upto: u32) -> Option<u32>
-    requires { ⌜ len ≤ length (now clauses) ⌝ }
-    ensures { λ r. ⌜ Next-or-none (take len (now (clauses .entry))) among bits upto r ⌝ }
+    requires { len ≤ length clauses.now }
+    ensures { Next-or-none (take len clauses.now) among bits upto result }
 {
     next_candidate(&clauses[0..len], among, bits, upto)
 }
 
 // Keeps a clause behind the others. Where there is no room it is left out: it would only have saved looks.
 fn keep(clauses: &mut [u32], len: usize, clause: u32) -> usize
-    requires { ⌜ len ≤ length (now clauses) ⌝ }
-    ensures { λ r. ⌜ Kept-or-not (now (clauses .entry)) len clause (now (clauses .exit)) r ⌝ }
+    requires { len ≤ length clauses.old }
+    ensures { Kept-or-not clauses.old len clause clauses.new result }
 {
     if len >= clauses.len() {
         return len;
@@ -50,11 +47,11 @@ fn try_list<'x>(
     from: &mut [u32],
     path: &mut [u32],
 ) -> Option<u32>
-    requires ground { ⌜ Ground (program (now p)) (now queue) (now edges) (now once) n first ⌝ }
-    requires in_cost { ⌜ n ≤ length (now cost) ⌝ }
-    requires in_from { ⌜ n ≤ length (now from) ⌝ }
-    requires room { ⌜ length (now path) ≡ 64 ⌝ }
-    ensures { λ r. ⌜ Tried (program (now (p .entry))) x r ⌝ }
+    requires ground { Ground (program p.now) queue.now edges.now once.now n first }
+    requires in_cost { n ≤ length cost.old }
+    requires in_from { n ≤ length from.old }
+    requires room { length path.old ≡ 64 }
+    ensures { Tried (program p.now) x result }
 {
     let Some(bad) = look_at(p, x, first, n, queue, edges, once, cost, from) else {
         return None;
@@ -80,15 +77,15 @@ fn lists_of<'x>(
     clauses: &mut [u32],
     len: usize,
 ) -> (Option<u32>, usize)
-    requires ground { ⌜ Ground (program (now p)) (now queue) (now edges) (now once) n first ⌝ }
-    requires in_cost { ⌜ n ≤ length (now cost) ⌝ }
-    requires in_from { ⌜ n ≤ length (now from) ⌝ }
-    requires room { ⌜ length (now path) ≡ 64 ⌝ }
-    requires among { ⌜ among ≡ every-spot (program (now p)) ⌝ }
-    requires few { ⌜ len ≤ length (now clauses) ⌝ }
-    requires learnt { ⌜ Learnt-masks (program (now p)) (now clauses) len ⌝ }
-    requires earlier { ⌜ Earlier-fail (program (now p)) bits (2 ^ 32 - 1) ⌝ }
-    ensures { λ r. ⌜ Gone-through (program (now (p .entry))) bits (now (clauses .exit)) (r .0) (r .1) ⌝ }
+    requires ground { Ground (program p.now) queue.now edges.now once.now n first }
+    requires in_cost { n ≤ length cost.old }
+    requires in_from { n ≤ length from.old }
+    requires room { length path.old ≡ 64 }
+    requires among { among ≡ every-spot (program p.now) }
+    requires few { len ≤ length clauses.old }
+    requires learnt { Learnt-masks (program p.now) clauses.old len }
+    requires earlier { Earlier-fail (program p.now) bits (2 ^ 32 - 1) }
+    ensures { Gone-through (program p.now) bits clauses.new result.0 result.1 }
 {
     let mut known = len;
     let mut upto = 0xffff_ffff;
@@ -120,29 +117,17 @@ pub fn fewest<'x>(
     path: &mut [u32],
     clauses: &mut [u32],
 ) -> u32
-    requires ground { ⌜ Ground (program (now p)) (now queue) (now edges) (now once) n first ⌝ }
-    requires in_cost { ⌜ n ≤ length (now cost) ⌝ }
-    requires in_from { ⌜ n ≤ length (now from) ⌝ }
-    requires room { ⌜ length (now path) ≡ 64 ⌝ }
-    ensures { λ r. ⌜ FewestFences (program (now (p .entry))) (spots r) ⌝ }
+    requires ground { Ground (program p.now) queue.now edges.now once.now n first }
+    requires in_cost { n ≤ length cost.old }
+    requires in_from { n ≤ length from.old }
+    requires room { length path.old ≡ 64 }
+    ensures { FewestFences (program p.now) (spots result) }
 {
     let among = every_spot(p);
     let mut known = 0;
     'lengths: for bits in 0..33 {
         let (found, more) = lists_of(
-            p,
-            among,
-            bits,
-            first,
-            n,
-            queue,
-            edges,
-            once,
-            cost,
-            from,
-            path,
-            clauses,
-            known,
+            p, among, bits, first, n, queue, edges, once, cost, from, path, clauses, known,
         );
         if let Some(x) = found {
             return x;

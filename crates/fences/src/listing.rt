@@ -1,16 +1,13 @@
 // All outcomes of a program, with and without waiting stores: the finished states among those found.
-ghost use mathlib.Core.Path.{_≡_};
-ghost use mathlib.Core.List.{List};
-ghost use Prim.Native.Nat.{ℕ, _+_, _*_, _<_, _≤_};
-ghost use lib.ListN.{length};
-ghost use Rattle·program.specs.Meaning.{program};
-ghost use Rattle·explore.specs.Found.{width, moves-of, Explored};
-ghost use Rattle·fences·specs.Listing.{text};
-ghost use Rattle·fences·specs.Looks.{Done-from};
-ghost use Rattle·fences·specs.Rows.{one-row, rows-from, Wrote};
-ghost use Rattle·fences·specs.Says.{ListedFound, ListedOf, ListedPost};
-use crate::found::first_done;
-use crate::found::record;
+ghost use Rattle.std.specs.Prelude.{◌≡◌, ℕ, ◌+◌, ◌*◌, ◌<◌, ◌≤◌, List, length};
+ghost use Rattle.program.specs.Meaning.{program};
+ghost use Rattle.explore.specs.Found.{width, moves_of, Explored};
+ghost use Rattle.fences.specs.Listing.{text};
+ghost use Rattle.fences.specs.Looks.{Done-from};
+ghost use Rattle.fences.specs.Rows.{one-row, rows-from, Wrote};
+ghost use Rattle.fences.specs.Says.{ListedFound, ListedOf, ListedPost};
+
+use crate::found::{first_done, record};
 use crate::sizes::states_that_fit;
 use explore::explore::explore;
 use once::finished::finished;
@@ -39,12 +36,12 @@ fn write_row(
     out: &mut [u32],
     at: usize,
 ) -> usize
-    requires explored { ⌜ ((g : List ℕ) × Explored (program (now p)) (now queue) g n) ⌝ }
-    requires held { ⌜ n * width (length (program (now p))) ≤ length (now queue) ⌝ }
-    requires below { ⌜ i < n ⌝ }
-    requires marked { ⌜ n ≤ length (now cost) ⌝ }
-    requires room { ⌜ at + length (text (one-row (program (now p)) (now queue) (now cost) i)) ≤ length (now out) ⌝ }
-    ensures { λ r. ⌜ Wrote (text (one-row (program (now (p .entry))) (now (queue .entry)) (now (cost .entry)) i)) (now (out .entry)) (now (out .exit)) at r ⌝ }
+    requires explored { (g : List ℕ) × Explored (program p.now) queue.now g n }
+    requires held { n * width (length (program p.now)) ≤ length queue.now }
+    requires below { i < n }
+    requires marked { n ≤ length cost.now }
+    requires room { at + length (text (one-row (program p.now) queue.now cost.now i)) ≤ length out.old }
+    ensures { Wrote (text (one-row (program p.now) queue.now cost.now i)) out.old out.new at result }
 {
     let words = 1 + 3 * p.count;
     let state = record(queue, words, i);
@@ -58,12 +55,12 @@ fn write_row(
 
 // Writes the rows of all finished states, which stand from `first` on, one after the other.
 fn write_rows(p: &Program, queue: &[u32], cost: &[u32], first: usize, n: usize, out: &mut [u32])
-    requires explored { ⌜ ((g : List ℕ) × Explored (program (now p)) (now queue) g n) ⌝ }
-    requires held { ⌜ n * width (length (program (now p))) ≤ length (now queue) ⌝ }
-    requires marked { ⌜ n ≤ length (now cost) ⌝ }
-    requires done { ⌜ Done-from (program (now p)) (now queue) n first ⌝ }
-    requires room { ⌜ length (text (rows-from (program (now p)) (now queue) (now cost) 0 n)) ≤ length (now out) ⌝ }
-    ensures { λ _. ⌜ Wrote (text (rows-from (program (now (p .entry))) (now (queue .entry)) (now (cost .entry)) 0 n)) (now (out .entry)) (now (out .exit)) 0 (length (text (rows-from (program (now (p .entry))) (now (queue .entry)) (now (cost .entry)) 0 n))) ⌝ }
+    requires explored { (g : List ℕ) × Explored (program p.now) queue.now g n }
+    requires held { n * width (length (program p.now)) ≤ length queue.now }
+    requires marked { n ≤ length cost.now }
+    requires done { Done-from (program p.now) queue.now n first }
+    requires room { length (text (rows-from (program p.now) queue.now cost.now 0 n)) ≤ length out.old }
+    ensures { Wrote (text (rows-from (program p.now) queue.now cost.now 0 n)) out.old out.new 0 (length (text (rows-from (program p.now) queue.now cost.now 0 n))) }
 {
     let mut at = 0;
     for i in first..n {
@@ -80,11 +77,11 @@ fn list_found(
     table: &mut [u32],
     out: &mut [u32],
 ) -> Listed
-    requires explored { ⌜ Explored (program (now p)) (now queue) (now edges) n ⌝ }
-    requires held { ⌜ n * width (length (program (now p))) ≤ length (now queue) ⌝ }
-    requires kept { ⌜ n * moves-of (length (program (now p))) ≤ length (now edges) ⌝ }
-    requires room { ⌜ 2 * n ≤ length (now table) ⌝ }
-    ensures { λ r. ⌜ ListedFound (program (now (p .entry))) (now (out .entry)) (now (out .exit)) r ⌝ }
+    requires explored { Explored (program p.now) queue.now edges.now n }
+    requires held { n * width (length (program p.now)) ≤ length queue.now }
+    requires kept { n * moves_of (length (program p.now)) ≤ length edges.now }
+    requires room { 2 * n ≤ length table.old }
+    ensures { ListedFound (program p.now) out.old out.new result }
 {
     let (cost, from) = table.split_at_mut(n);
     mark_at_once(p, edges, n, cost, from);
@@ -99,8 +96,8 @@ fn list_found(
 
 // The outcomes of a program, in lent words.
 fn list(p: &Program, out: &mut [u32], work: &mut [u32]) -> Listed
-    requires { ⌜ 65536 ≤ length (now work) ⌝ }
-    ensures { λ r. ⌜ ListedOf (program (now (p .entry))) (length (now (work .entry))) (now (out .entry)) (now (out .exit)) r ⌝ }
+    requires { 65536 ≤ length work.old }
+    ensures { ListedOf (program p.now) (length work.old) out.old out.new result }
 {
     let words = 1 + 3 * p.count;
     let limit = states_that_fit(p.count, work.len());
@@ -117,7 +114,7 @@ fn list(p: &Program, out: &mut [u32], work: &mut [u32]) -> Listed
 // All outcomes of the program that the words are, in at most `most` states: into `out` a row for each, 1 if it also
 // comes out at once, else 0, then all registers, thread by thread, and memory.
 pub fn outcomes(words: &[u32], most: u32, out: &mut [u32], work: &mut [u32]) -> Listed
-    ensures { λ r. ⌜ ListedPost (now (words .entry)) most (length (now (work .entry))) (now (out .entry)) (now (out .exit)) r ⌝ }
+    ensures { ListedPost words.now most (length work.old) out.old out.new result }
 {
     if work.len() < 65536 + 128 * (most as usize + 1) {
         return Listed::Few;

@@ -1,16 +1,14 @@
 // The call: is a program plain; if not, a run that shows it, and the fewest fences.
-ghost use mathlib.Core.Path.{_≡_};
-ghost use Prim.Native.Nat.{_+_, _*_, _≤_};
-ghost use lib.ListN.{length};
-ghost use Rattle·program.specs.Meaning.{program};
-ghost use Rattle·explore.specs.Found.{width, moves-of, Parents, Explored};
-ghost use Rattle·fences·specs.Answers.{LookedFound, LookedOf, LookedPost};
+ghost use Rattle.std.specs.Prelude.{◌≡◌, ◌+◌, ◌*◌, ◌≤◌, length};
+ghost use Rattle.program.specs.Meaning.{program};
+ghost use Rattle.explore.specs.Found.{width, moves_of, Parents, Explored};
+ghost use Rattle.fences.specs.Answers.{LookedFound, LookedOf, LookedPost};
+
 use crate::fewest::fewest;
 use crate::found::first_done;
 use crate::looks::first_apart;
 use crate::sizes::states_that_fit;
-use crate::telling::write_fences;
-use crate::telling::write_moves;
+use crate::telling::{write_fences, write_moves};
 use explore::explore::explore;
 use explore::runs::run_to;
 use once::marks::mark_at_once;
@@ -39,13 +37,13 @@ fn look_found(
     table: &mut [u32],
     out: &mut [u32],
 ) -> Looked
-    requires explored { ⌜ Explored (program (now p)) (now queue) (now edges) n ⌝ }
-    requires held { ⌜ n * width (length (program (now p))) ≤ length (now queue) ⌝ }
-    requires kept { ⌜ n * moves-of (length (program (now p))) ≤ length (now edges) ⌝ }
-    requires parents { ⌜ Parents (program (now p)) (now edges) (now from) n (n * moves-of (length (program (now p)))) ⌝ }
-    requires in_from { ⌜ n ≤ length (now from) ⌝ }
-    requires room { ⌜ 2 * n ≤ length (now table) ⌝ }
-    ensures { λ r. ⌜ LookedFound (program (now (p .entry))) (now (out .entry)) (now (out .exit)) r ⌝ }
+    requires explored { Explored (program p.now) queue.now edges.now n }
+    requires held { n * width (length (program p.now)) ≤ length queue.now }
+    requires kept { n * moves_of (length (program p.now)) ≤ length edges.now }
+    requires parents { Parents (program p.now) edges.now from.old n (n * moves_of (length (program p.now))) }
+    requires in_from { n ≤ length from.old }
+    requires room { 2 * n ≤ length table.old }
+    ensures { LookedFound (program p.now) out.old out.new result }
 {
     let (once, rest) = table.split_at_mut(n);
     let (cost, clauses) = rest.split_at_mut(n);
@@ -61,16 +59,7 @@ fn look_found(
     }
     let mut path = [0u32; 64];
     let fences = fewest(
-        p,
-        first,
-        n,
-        queue,
-        edges,
-        once,
-        cost,
-        from,
-        &mut path,
-        clauses,
+        p, first, n, queue, edges, once, cost, from, &mut path, clauses,
     );
     write_moves(p.count, &told[0..moves], out);
     let count = write_fences(fences, out, moves);
@@ -79,8 +68,8 @@ fn look_found(
 
 // The answer for a program, in lent words.
 fn look_in(p: &Program, out: &mut [u32], work: &mut [u32]) -> Looked
-    requires { ⌜ 65536 ≤ length (now work) ⌝ }
-    ensures { λ r. ⌜ LookedOf (program (now (p .entry))) (length (now (work .entry))) (now (out .entry)) (now (out .exit)) r ⌝ }
+    requires { 65536 ≤ length work.old }
+    ensures { LookedOf (program p.now) (length work.old) out.old out.new result }
 {
     let words = 1 + 3 * p.count;
     let limit = states_that_fit(p.count, work.len());
@@ -98,7 +87,7 @@ fn look_in(p: &Program, out: &mut [u32], work: &mut [u32]) -> Looked
 // can't come out at once, a thread's number for its next instruction and 4 more for its oldest store going to memory; then
 // thread and instruction for each of the fewest fences with which it is plain.
 pub fn look(words: &[u32], most: u32, out: &mut [u32], work: &mut [u32]) -> Looked
-    ensures { λ r. ⌜ LookedPost (now (words .entry)) most (length (now (work .entry))) (now (out .entry)) (now (out .exit)) r ⌝ }
+    ensures { LookedPost words.now most (length work.old) out.old out.new result }
 {
     if work.len() < 65536 + 128 * (most as usize + 1) {
         return Looked::Few;

@@ -1,28 +1,23 @@
 // Looking at a set of guards over the states found: is a bad state come to, which is finished and can't be come to at once;
 // and what is learned from a run to it. Finished states stand last, so that bad ones are looked for there alone.
-ghost use mathlib.Core.Path.{_≡_};
-ghost use mathlib.Core.Bool.{true};
-ghost use mathlib.Core.List.{List};
-ghost use Prim.Native.Nat.{ℕ, _+_, _*_, _<_, _≤_};
-ghost use lib.ListN.{length};
-ghost use Rattle·std.specs.declared.option.Option.the-variants.{Some};
-ghost use Rattle·program.specs.Meaning.{program};
-ghost use Rattle·explore.specs.Found.{width, moves-of, Explored};
-ghost use Rattle·once.specs.Once.{Marks-once};
-ghost use Rattle·fences·specs.Looks.{Done-from, Chosen, Apart, Bad, Looked, Learned};
+ghost use Rattle.std.specs.Prelude.{◌≡◌, ℕ, ◌+◌, ◌*◌, ◌<◌, ◌≤◌, true, List, length, Some};
+ghost use Rattle.program.specs.Meaning.{program};
+ghost use Rattle.explore.specs.Found.{width, moves_of, Explored};
+ghost use Rattle.once.specs.Once.{Marks-once};
+ghost use Rattle.fences.specs.Looks.{Done-from, Chosen, Apart, Bad, Looked, Learned};
+
 use graph::search::search;
 use graph::walks::walk_back;
 use guard::path::run_hits;
 use guard::rule::Guarded;
-use guard::rule::GuardedRule;
 use program::threads::Program;
 
 // Of the states from `first` to n the first that is not marked in `once`. All are come to by runs, so that one such, if it
 // is finished, shows that the program is not plain.
 pub fn first_apart(once: &[u32], first: usize, n: usize) -> Option<usize>
-    requires within { ⌜ first ≤ n ⌝ }
-    requires in_once { ⌜ n ≤ length (now once) ⌝ }
-    ensures { λ r. ⌜ Apart (now (once .entry)) first n r ⌝ }
+    requires within { first ≤ n }
+    requires in_once { n ≤ length once.now }
+    ensures { Apart once.now first n result }
 {
     for i in first..n {
         if once[i] == 0 {
@@ -34,9 +29,9 @@ pub fn first_apart(once: &[u32], first: usize, n: usize) -> Option<usize>
 
 // Whether the best so far costs no more than state `i`.
 fn as_good(cost: &[u32], best: Option<usize>, i: usize) -> bool
-    requires below { ⌜ i < length (now cost) ⌝ }
-    requires held { ⌜ ((j : ℕ) → best ≡ Some j → j < length (now cost)) ⌝ }
-    ensures { λ r. ⌜ (r ≡ true → (j : ℕ) × (best ≡ Some j)) ⌝ }
+    requires below { i < length cost.now }
+    requires held { (j : ℕ) → best ≡ Some j → j < length cost.now }
+    ensures { result ≡ true → (j : ℕ) × (best ≡ Some j) }
 {
     match best {
         None => false,
@@ -53,12 +48,12 @@ fn choose(
     i: usize,
     best: Option<usize>,
 ) -> Option<usize>
-    requires in_once { ⌜ n ≤ length (now once) ⌝ }
-    requires in_cost { ⌜ n ≤ length (now cost) ⌝ }
-    requires behind { ⌜ first ≤ i ⌝ }
-    requires below { ⌜ i < n ⌝ }
-    requires best { ⌜ Chosen (now once) (now cost) first i best ⌝ }
-    ensures { λ r. ⌜ Chosen (now (once .entry)) (now (cost .entry)) first (i + 1) r ⌝ }
+    requires in_once { n ≤ length once.now }
+    requires in_cost { n ≤ length cost.now }
+    requires behind { first ≤ i }
+    requires below { i < n }
+    requires best { Chosen once.now cost.now first i best }
+    ensures { Chosen once.now cost.now first (i + 1) result }
 {
     if cost[i] == 0 {
         return best;
@@ -74,10 +69,10 @@ fn choose(
 
 // Of the states from `first` to n that are marked in `cost` and not in `once`, one of least cost.
 pub fn find_bad(once: &[u32], cost: &[u32], first: usize, n: usize) -> Option<usize>
-    requires within { ⌜ first ≤ n ⌝ }
-    requires in_once { ⌜ n ≤ length (now once) ⌝ }
-    requires in_cost { ⌜ n ≤ length (now cost) ⌝ }
-    ensures { λ r. ⌜ Chosen (now (once .entry)) (now (cost .entry)) first n r ⌝ }
+    requires within { first ≤ n }
+    requires in_once { n ≤ length once.now }
+    requires in_cost { n ≤ length cost.now }
+    ensures { Chosen once.now cost.now first n result }
 {
     let mut best = None;
     for i in first..n {
@@ -98,15 +93,15 @@ pub fn look_at<'x>(
     cost: &mut [u32],
     from: &mut [u32],
 ) -> Option<usize>
-    requires explored { ⌜ Explored (program (now p)) (now queue) (now edges) n ⌝ }
-    requires marks { ⌜ Marks-once (program (now p)) (now queue) n (now once) ⌝ }
-    requires done { ⌜ Done-from (program (now p)) (now queue) n first ⌝ }
-    requires held { ⌜ n * width (length (program (now p))) ≤ length (now queue) ⌝ }
-    requires kept { ⌜ n * moves-of (length (program (now p))) ≤ length (now edges) ⌝ }
-    requires in_once { ⌜ n ≤ length (now once) ⌝ }
-    requires in_cost { ⌜ n ≤ length (now cost) ⌝ }
-    requires in_from { ⌜ n ≤ length (now from) ⌝ }
-    ensures { λ r. ⌜ Looked (program (now (p .entry))) (now (queue .entry)) (now (edges .entry)) guards n (now (cost .exit)) (now (from .exit)) r ⌝ }
+    requires explored { Explored (program p.now) queue.now edges.now n }
+    requires marks { Marks-once (program p.now) queue.now n once.now }
+    requires done { Done-from (program p.now) queue.now n first }
+    requires held { n * width (length (program p.now)) ≤ length queue.now }
+    requires kept { n * moves_of (length (program p.now)) ≤ length edges.now }
+    requires in_once { n ≤ length once.now }
+    requires in_cost { n ≤ length cost.old }
+    requires in_from { n ≤ length from.old }
+    ensures { Looked (program p.now) queue.now edges.now guards n cost.new from.new result }
 {
     let rule = Guarded {
         queue,
@@ -129,12 +124,12 @@ pub fn learn<'x>(
     bad: usize,
     path: &mut [u32],
 ) -> (usize, u32)
-    requires explored { ⌜ Explored (program (now p)) (now queue) (now edges) n ⌝ }
-    requires kept { ⌜ n * moves-of (length (program (now p))) ≤ length (now edges) ⌝ }
-    requires in_from { ⌜ n ≤ length (now from) ⌝ }
-    requires bad { ⌜ ((cost : List ℕ) × Bad (program (now p)) (now queue) (now edges) guards n cost (now from) bad) ⌝ }
-    requires room { ⌜ length (now path) ≡ 64 ⌝ }
-    ensures { λ r. ⌜ Learned (program (now (p .entry))) (now (queue .entry)) guards bad (now (path .exit)) (r .0) (r .1) ⌝ }
+    requires explored { Explored (program p.now) queue.now edges.now n }
+    requires kept { n * moves_of (length (program p.now)) ≤ length edges.now }
+    requires in_from { n ≤ length from.now }
+    requires bad { (cost : List ℕ) × Bad (program p.now) queue.now edges.now guards n cost from.now bad }
+    requires room { length path.old ≡ 64 }
+    ensures { Learned (program p.now) queue.now guards bad path.new result.0 result.1 }
 {
     let rule = Guarded {
         queue,

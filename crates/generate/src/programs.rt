@@ -14,18 +14,12 @@
 //
 // All orders can be made only of few reads and writes, so their number is bounded for the whole program, and the number of
 // instructions is not.
-ghost use mathlib.Core.Path.{_≡_};
-ghost use Prim.Native.Nat.{_+_, _≤_, _<_};
-ghost use lib.ListN.{length};
-ghost use Rattle·std.specs.Of.Vec.{vec-len};
-ghost use Rattle·std.specs.Vec.{made};
+ghost use Rattle.std.specs.Prelude.{◌≡◌, ◌+◌, ◌<◌, ◌≤◌, length, IfOk, vec_len, OnOk};
+
 use crate::random::Random;
-use program::instructions::Instruction;
-use program::instructions::Place;
-use program::instructions::Register;
+use program::instructions::{Instruction, Place, Register};
 use program::words::instruction_to_words;
-use std::alloc::AllocError;
-use std::alloc::Global;
+use std::alloc::{AllocError, Global};
 
 // At most so many threads, one to four, and so many reads and writes in all.
 #[derive(Clone, Copy)]
@@ -138,7 +132,7 @@ fn add_line(
     code: &mut Vec<Instruction>,
     full: Register,
 ) -> Result<(), AllocError>
-    ensures { λ r. ⌜ made r (λ _. vec-len (now (code .exit)) ≡ vec-len (now (code .entry)) + 1) ⌝ }
+    ensures { OnOk result (vec_len code.new ≡ vec_len code.old + 1) }
 {
     let line = if plan.spare > 0 && random.one_in(3) {
         plan.spare -= 1;
@@ -162,8 +156,8 @@ fn vary(
     code: &mut Vec<Instruction>,
     full: Register,
 ) -> Result<(), AllocError>
-    requires { ⌜ vec-len (now code) ≤ 8 ⌝ }
-    ensures { λ r. ⌜ made r (λ _. vec-len (now (code .exit)) ≤ 8) ⌝ }
+    requires { vec_len code.old ≤ 8 }
+    ensures { OnOk result (vec_len code.new ≤ 8) }
 {
     let at = random.below(40) as usize;
     if at < code.len() {
@@ -186,7 +180,7 @@ fn add_accesses(
     own: Place,
     other: Place,
 ) -> Result<(), AllocError>
-    ensures { λ r. ⌜ made r (λ _. vec-len (now (code .exit)) ≡ vec-len (now (code .entry)) + 2) ⌝ }
+    ensures { OnOk result (vec_len code.new ≡ vec_len code.old + 2) }
 {
     let first = if random.one_in(20) {
         load(random, own, full)
@@ -210,8 +204,8 @@ fn ring_thread(
     plan: &mut Plan,
     at: u32,
 ) -> Result<Vec<Instruction>, AllocError>
-    requires { ⌜ at < 4 ⌝ }
-    ensures { λ r. ⌜ made r (λ v. vec-len v ≤ 8) ⌝ }
+    requires { at < 4 }
+    ensures { IfOk result (λ v. vec_len v ≤ 8) }
 {
     let full = some_register(random);
     let mut code = Vec::new(heap);
@@ -233,7 +227,7 @@ fn free_thread(
     random: &mut Random,
     plan: &mut Plan,
 ) -> Result<Vec<Instruction>, AllocError>
-    ensures { λ r. ⌜ made r (λ v. vec-len v ≤ 8) ⌝ }
+    ensures { IfOk result (λ v. vec_len v ≤ 8) }
 {
     let full = some_register(random);
     let mut code = Vec::new(heap);
@@ -256,8 +250,8 @@ fn thread(
     plan: &mut Plan,
     at: u32,
 ) -> Result<Vec<Instruction>, AllocError>
-    requires { ⌜ at < 4 ⌝ }
-    ensures { λ r. ⌜ made r (λ v. vec-len v ≤ 8) ⌝ }
+    requires { at < 4 }
+    ensures { IfOk result (λ v. vec_len v ≤ 8) }
 {
     if at < plan.ring && !random.one_in(24) {
         return ring_thread(heap, random, plan, at);
@@ -269,7 +263,7 @@ fn thread(
 }
 
 fn ring_size(random: &mut Random, count: u32) -> u32
-    ensures { λ r. ⌜ r ≤ count ⌝ }
+    ensures { result ≤ count }
 {
     if random.one_in(9) {
         return 0;
@@ -281,7 +275,7 @@ fn ring_size(random: &mut Random, count: u32) -> u32
 }
 
 fn count_of(random: &mut Random, limits: Limits) -> u32
-    ensures { λ r. ⌜ (0 < r) × (r ≤ 4) ⌝ }
+    ensures { (0 < result) × (result ≤ 4) }
 {
     let most = limits.threads.min(4);
     if most < 2 || random.one_in(16) {
@@ -291,7 +285,7 @@ fn count_of(random: &mut Random, limits: Limits) -> u32
 }
 
 fn push_thread(words: &mut Vec<u32>, code: &[Instruction]) -> Result<(), AllocError>
-    requires { ⌜ length (now code) ≤ 8 ⌝ }
+    requires { length code.now ≤ 8 }
 {
     words.push(code.len() as u32)?;
     for instruction in code {
@@ -301,7 +295,7 @@ fn push_thread(words: &mut Vec<u32>, code: &[Instruction]) -> Result<(), AllocEr
 }
 
 fn new_plan(random: &mut Random, limits: Limits, count: u32) -> Plan
-    requires { ⌜ count ≤ 4 ⌝ }
+    requires { count ≤ 4 }
 {
     let ring = ring_size(random, count).min(limits.events / 2);
     let twice = 4 * ring <= limits.events && random.one_in(3);

@@ -1,5 +1,5 @@
 // Numbers that look random: splitmix64, from a seed. The same seed gives the same numbers.
-ghost use Prim.Native.Nat.{_<_};
+ghost use Rattle.std.specs.Prelude.{◌<◌};
 
 #[derive(Clone, Copy)]
 pub struct Random {
@@ -19,14 +19,14 @@ impl Random {
     }
 
     pub fn below(&mut self, n: u32) -> u32
-        requires { ⌜ 0 < n ⌝ }
-        ensures { λ r. ⌜ r < n ⌝ }
+        requires { 0 < n }
+        ensures { result < n }
     {
         ((self.draw() >> 32) % n as u64) as u32
     }
 
     pub fn one_in(&mut self, n: u32) -> bool
-        requires { ⌜ 0 < n ⌝ }
+        requires { 0 < n }
     {
         self.below(n) == 0
     }

@@ -1,11 +1,8 @@
 // Words that are mostly no program: those of a program with one word changed, dropped or added.
-ghost use Prim.Native.Nat.{_+_, _≤_};
-ghost use lib.ListN.{length};
-ghost use Rattle·std.specs.Of.Vec.{vec-len};
-ghost use Rattle·std.specs.Vec.{made};
+ghost use Rattle.std.specs.Prelude.{◌+◌, ◌≤◌, length, IfOk, vec_len};
+
 use crate::random::Random;
-use std::alloc::AllocError;
-use std::alloc::Global;
+use std::alloc::{AllocError, Global};
 
 // Mostly a small word.
 fn some_word(random: &mut Random) -> u32 {
@@ -17,7 +14,7 @@ fn some_word(random: &mut Random) -> u32 {
 
 // The words with one changed or dropped, or with one more.
 pub fn damaged(heap: Global, random: &mut Random, words: &[u32]) -> Result<Vec<u32>, AllocError>
-    ensures { λ r. ⌜ made r (λ v. (vec-len v ≤ length (now (words .entry)) + 1) × (length (now (words .entry)) ≤ vec-len v + 1)) ⌝ }
+    ensures { IfOk result (λ v. (vec_len v ≤ length words.now + 1) × (length words.now ≤ vec_len v + 1)) }
 {
     let word = some_word(random);
     let mut damaged = Vec::from_slice(heap, words)?;

@@ -1,14 +1,9 @@
 -- Going along edges of one node, one after the other.
-use mathlib.Core.Path.{_≡_, refl, sym, ap, _∙_}
-use mathlib.Core.Logic.{_⊎_, inl, inr}
-use mathlib.Core.List.{List}
-use Prim.Native.Nat.{ℕ, zero, suc, _+_, _<_, _≤_}
-use native.Mathlib.Omega.{arith}
-use lib.ListN.{length}
-use Rattle·std.proofs.shelf.Tests.{cases-lt}
-use Rattle·graph·specs.Rules.{Ahead}
-use Rattle·graph·specs.Walks.{Leads}
-use Rattle·graph·specs.Search.{Marked, Steps, Grown}
+use Rattle.std.proofs.Common.{◌≡◌, ℕ, zero, suc, ◌+◌, ◌<◌, ◌≤◌, ◌⊎◌, List, length, sym, refl, ap, ◌∙◌, inl, inr, arith}
+use Rattle.std.proofs.lemmas.Bool.{cases_lt}
+use Rattle.graph.specs.Rules.{Ahead}
+use Rattle.graph.specs.Walks.{Leads}
+use Rattle.graph.specs.Search.{Marked, Steps, Grown}
 
 -- no edge
 pub grown-none : (edge : ℕ → Type 0) (i : ℕ) (c f : List ℕ) → ((k : ℕ) → edge k → ⊥) → Grown edge i c f c f
@@ -16,65 +11,65 @@ grown-none edge i c f never =
     record { marks = λ k h. h; hit = λ k e. absurd (never k e); kept = λ k h. inl (h, refl); same = λ k n. (refl, refl) }
 
 -- some edges, and then others
-pub grown-then : (one two both : ℕ → Type 0) (i : ℕ) (c f c′ f′ c″ f″ : List ℕ) → ((k : ℕ) → one k → both k) → ((k : ℕ) → two k → both k) → ((k : ℕ) → both k → one k ⊎ two k) → Grown one i c f c′ f′ → Grown two i c′ f′ c″ f″ → Grown both i c f c″ f″
-grown-then one two both i c f c′ f′ c″ f″ l r split g h =
+pub grown-then : (one two both : ℕ → Type 0) (i : ℕ) (c f c' f' c'' f'' : List ℕ) → ((k : ℕ) → one k → both k) → ((k : ℕ) → two k → both k) → ((k : ℕ) → both k → one k ⊎ two k) → Grown one i c f c' f' → Grown two i c' f' c'' f'' → Grown both i c f c'' f''
+grown-then one two both i c f c' f' c'' f'' l r split g h =
     record {
-      marks = λ k m. h .marks k (g .marks k m);
-      hit = λ k e. elim (split k e) [ inl a ↦ h .marks k (g .hit k a) | inr b ↦ h .hit k b ];
+      marks = λ k m. h.marks k (g.marks k m);
+      hit = λ k e. elim (split k e) [ inl a ↦ h.marks k (g.hit k a) | inr b ↦ h.hit k b ];
       kept =
-          λ k m. elim (h .kept k m) [
-            | inl p ↦ elim (g .kept k (p .0)) [ inl q ↦ inl (q .0, p .1 ∙ q .1) | inr q ↦ inr (l k (q .0), p .1 ∙ q .1) ]
-            | inr p ↦ inr (r k (p .0), p .1)
+          λ k m. elim (h.kept k m) [
+            | inl p ↦ elim (g.kept k p.0) [ inl q ↦ inl (q.0, p.1 ∙ q.1) | inr q ↦ inr (l k q.0, p.1 ∙ q.1) ]
+            | inr p ↦ inr (r k p.0, p.1)
           ];
       same =
           λ k not.
-          let a = g .same k (λ e. not (l k e)) in
-          let b = h .same k (λ e. not (r k e)) in
-          (b .0 ∙ a .0, b .1 ∙ a .1);
+          let a = g.same k (λ e. not (l k e)) in
+          let b = h.same k (λ e. not (r k e)) in
+          (b.0 ∙ a.0, b.1 ∙ a.1);
     }
 
 -- the edges of the moves below m, and then of m
-pub leads-more : (next : ℕ → ℕ → ℕ) (m i : ℕ) (c f c′ f′ c″ f″ : List ℕ) (t : ℕ) → t ≡ next i m → Grown (Leads next m i) i c f c′ f′ → Grown (λ k. t ≡ suc k) i c′ f′ c″ f″ → Grown (Leads next (m + 1) i) i c f c″ f″
-leads-more next m i c f c′ f′ c″ f″ t is g h =
-    grown-then (Leads next m i) (λ k. t ≡ suc k) (Leads next (m + 1) i) i c f c′ f′ c″ f″
-    (λ k e. (e .0, let l = e .1 in omega arith, e .2))
+pub leads-more : (next : ℕ → ℕ → ℕ) (m i : ℕ) (c f c' f' c'' f'' : List ℕ) (t : ℕ) → t ≡ next i m → Grown (Leads next m i) i c f c' f' → Grown (λ k. t ≡ suc k) i c' f' c'' f'' → Grown (Leads next (m + 1) i) i c f c'' f''
+leads-more next m i c f c' f' c'' f'' t is g h =
+    grown-then (Leads next m i) (λ k. t ≡ suc k) (Leads next (m + 1) i) i c f c' f' c'' f''
+    (λ k e. (e.0, let l = e.1 in omega arith, e.2))
     (λ k e. (m, omega arith, sym is ∙ e))
-    (λ k e. elim (cases-lt (e .0) m) [ inl l ↦ inl (e .0, l, e .2) | inr l ↦ inr (is ∙ last k e l) ])
+    (λ k e. elim (cases_lt e.0 m) [ inl l ↦ inl (e.0, l, e.2) | inr l ↦ inr (is ∙ last k e l) ])
     g h
   where
-    last : (k : ℕ) (e : Leads next (m + 1) i k) → m ≤ e .0 → next i m ≡ suc k
-    last k e l = let z : m ≡ e .0 = let h = e .1 in omega arith in ap (next i) z ∙ e .2
+    last : (k : ℕ) (e : Leads next (m + 1) i k) → m ≤ e.0 → next i m ≡ suc k
+    last k e l = let z : m ≡ e.0 = let h = e.1 in omega arith in ap (next i) z ∙ e.2
 
 -- one node of n
-pub steps-of : (can : ℕ → ℕ → Type 0) (next : ℕ → ℕ → ℕ) (moves n i : ℕ) (c f : List ℕ) → Ahead can next moves n → i < n → n ≤ length c → n ≤ length f → Steps (can i) (next i) moves i c f
-steps-of can next moves n i c f a h p q =
+pub steps_of : (can : ℕ → ℕ → Type 0) (next : ℕ → ℕ → ℕ) (moves n i : ℕ) (c f : List ℕ) → Ahead can next moves n → i < n → n ≤ length c → n ≤ length f → Steps (can i) (next i) moves i c f
+steps_of can next moves n i c f a h p q =
     record {
-      may = λ m l. a .may i m h l;
-      up = λ m j l e. a .up i m j h l e;
-      in-cost = λ m j l e. let w = a .within i m j h l e in omega arith;
-      in-from = λ m j l e. let w = a .within i m j h l e in omega arith;
+      may = λ m l. a.may i m h l;
+      up = λ m j l e. a.up i m j h l e;
+      in-cost = λ m j l e. let w = a.within i m j h l e in omega arith;
+      in-from = λ m j l e. let w = a.within i m j h l e in omega arith;
     }
 
 -- one move m of a node, which leads to t
 module _ (can : ℕ → Type 0) (next : ℕ → ℕ) (moves i : ℕ) (c f : List ℕ) (s : Steps can next moves i c f) (m : ℕ) (h : m < moves) where
-  pub ahead-of : (t : ℕ) → t ≡ next m → 0 < t → i < t
-  ahead-of zero e p = omega arith
-  ahead-of (suc j) e p = let u = s .up m j h (sym e) in omega arith
+  pub ahead_of : (t : ℕ) → t ≡ next m → 0 < t → i < t
+  ahead_of zero e p = omega arith
+  ahead_of (suc j) e p = let u = s.up m j h (sym e) in omega arith
 
   pub within-cost : (t : ℕ) → t ≡ next m → t ≤ length c
   within-cost zero e = omega arith
-  within-cost (suc j) e = let u = s .in-cost m j h (sym e) in omega arith
+  within-cost (suc j) e = let u = s.in-cost m j h (sym e) in omega arith
 
   pub within-from : (t : ℕ) → t ≡ next m → t ≤ length f
   within-from zero e = omega arith
-  within-from (suc j) e = let u = s .in-from m j h (sym e) in omega arith
+  within-from (suc j) e = let u = s.in-from m j h (sym e) in omega arith
 
 -- all moves of a node that was come to
-pub leads-all : (next : ℕ → ℕ → ℕ) (moves m i : ℕ) (c f c′ f′ : List ℕ) → m ≡ moves → Marked c i → Grown (Leads next m i) i c f c′ f′ → Grown (λ k. Marked c i × Leads next moves i k) i c f c′ f′
-leads-all next moves m i c f c′ f′ e p g =
+pub leads-all : (next : ℕ → ℕ → ℕ) (moves m i : ℕ) (c f c' f' : List ℕ) → m ≡ moves → Marked c i → Grown (Leads next m i) i c f c' f' → Grown (λ k. Marked c i × Leads next moves i k) i c f c' f'
+leads-all next moves m i c f c' f' e p g =
     record {
-      marks = g .marks;
-      hit = λ k l. g .hit k (rw e (l .1));
-      kept = λ k h. elim (g .kept k h) [ inl a ↦ inl a | inr a ↦ inr ((p, rw e at (a .0)), a .1) ];
-      same = λ k not. g .same k (λ l. not (p, rw e at l));
+      marks = g.marks;
+      hit = λ k l. g.hit k (rw e l.1);
+      kept = λ k h. elim (g.kept k h) [ inl a ↦ inl a | inr a ↦ inr ((p, rw e at a.0), a.1) ];
+      same = λ k not. g.same k (λ l. not (p, rw e at l));
     }

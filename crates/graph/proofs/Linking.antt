@@ -1,13 +1,9 @@
 -- From a marked node the links lead back to the start, and along a walk.
-use mathlib.Core.Path.{_≡_, refl, sym, _∙_}
-use mathlib.Core.List.{List, [], _∷_, _++_}
-use Prim.Native.Nat.{ℕ, zero, suc, _<_, _≤_}
-use native.Mathlib.Omega.{arith}
-use lib.ListN.{length, getD}
-use Rattle·std.proofs.shelf.Lists.{length-push}
-use Rattle·graph·specs.Walks.{Walk}
-use Rattle·graph·specs.Search.{Marked, Linked, Links}
-use Rattle·graph·proofs.Walked.{walk-push}
+use Rattle.std.proofs.Common.{◌≡◌, ℕ, zero, suc, ◌<◌, ◌≤◌, List, [], ◌∷◌, ◌++◌, length, get_or, sym, refl, ◌∙◌, arith}
+use Rattle.std.proofs.lemmas.List.{length_push}
+use Rattle.graph.specs.Walks.{Walk}
+use Rattle.graph.specs.Search.{Marked, Linked, Links}
+use Rattle.graph.proofs.Walked.{walk-push}
 
 module _ (next : ℕ → ℕ → ℕ) (moves n : ℕ) (c f : List ℕ) where
   -- in fewer than b links
@@ -16,8 +12,8 @@ module _ (next : ℕ → ℕ → ℕ) (moves n : ℕ) (c f : List ℕ) where
   links-under room l (suc b) zero u h m = (0, refl)
   links-under room l (suc b) (suc j) u h m =
       let w = l (suc j) h (omega arith) m in
-      let p = w .before in
-      let (d, q) = links-under room l b (getD f (suc j) 0) (omega arith) (omega arith) (w .marked) in
+      let p = w.before in
+      let (d, q) = links-under room l b (get_or f (suc j) 0) (omega arith) (omega arith) w.marked in
       (suc d, (p, omega arith, q))
 
   pub links-of : n ≤ length f → Linked next moves n c f → (j : ℕ) → j < n → Marked c j → (d : ℕ) × Links f d j
@@ -27,8 +23,8 @@ module _ (next : ℕ → ℕ → ℕ) (moves n : ℕ) (c f : List ℕ) where
   pub links-walk : Linked next moves n c f → (d j : ℕ) → j < n → Marked c j → Links f d j → (ms : List ℕ) × (length ms ≡ d) × Walk next moves 0 ms j
   links-walk l zero j h m q = ([], refl, sym q)
   links-walk l (suc d) j h m q =
-      let p = q .0 in
+      let p = q.0 in
       let w = l j h (omega arith) m in
-      let (x, u, e) = w .edge in
-      let (ms, long, v) = links-walk l d (getD f j 0) (omega arith) (w .marked) (q .2) in
-      (ms ++ (x ∷ []), length-push ms x ∙ (omega arith), walk-push next moves ms 0 (getD f j 0) j x v u e)
+      let (x, u, e) = w.edge in
+      let (ms, long, v) = links-walk l d (get_or f j 0) (omega arith) w.marked q.2 in
+      (ms ++ (x ∷ []), length_push ms x ∙ (omega arith), walk-push next moves ms 0 (get_or f j 0) j x v u e)

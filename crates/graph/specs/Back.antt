@@ -1,12 +1,7 @@
 -- Reading a walk back from the words that a search left.
-use mathlib.Core.Path.{_≡_}
-use mathlib.Core.List.{List}
-use Prim.Native.Nat.{ℕ, _<_, _≤_}
-use lib.ListN.{length, take, drop}
-use Rattle·std.specs.declared.option.Option.{Option}
-use Rattle·std.specs.declared.option.Option.the-variants.{Some, None}
-use Rattle·graph·specs.Walks.{Walk}
-use Rattle·graph·specs.Search.{Marked, Linked}
+use Rattle.std.specs.Prelude.{◌≡◌, ℕ, ◌<◌, ◌≤◌, List, length, take, drop, Some, None, Option}
+use Rattle.graph.specs.Walks.{Walk}
+use Rattle.graph.specs.Search.{Marked, Linked}
 
 -- what is asked: a search left 'from', and marked the node
 pub record Traced (can : ℕ → ℕ → Type 0) (next : ℕ → ℕ → ℕ) (moves : ℕ) (from : List ℕ) (to : ℕ) : Type 0 where

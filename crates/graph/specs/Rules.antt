@@ -1,12 +1,9 @@
 -- Where moves lead: a node and a move to 0 where there is no edge that may be taken, else to the node come to, plus 1.
-use mathlib.Core.Path.{_≡_}
-use mathlib.Core.List.{List}
-use Prim.Native.Nat.{ℕ, zero, suc, _+_, _*_, _^_, _<_}
-use lib.ListN.{length, getD}
+use Rattle.std.specs.Prelude.{◌≡◌, ℕ, zero, suc, ◌+◌, ◌*◌, ◌^◌, ◌<◌, List, length, slice_index}
 
 -- all kept edges: at i * width + m stands where move m leads from node i
 abbrev pub kept : List ℕ → ℕ → ℕ → ℕ → ℕ
-kept edges width i m = getD edges (i * width + m) 0
+kept edges width i m = slice_index edges (i * width + m)
 
 abbrev pub Keeps : List ℕ → ℕ → ℕ → ℕ → Type 0
 Keeps edges width i m = i * width + m < length edges

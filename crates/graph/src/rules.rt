@@ -1,9 +1,7 @@
 // Which edges a search may take. Kept successors are words: at `node * width + move` stands 0 where there is no edge, else
 // the node come to, plus 1. The same words are searched under several rules.
-ghost use mathlib.Core.Path.{_≡_};
-ghost use Prim.Native.Nat.{ℕ};
-ghost use denote.Ref.{now};
-ghost use Rattle·graph·specs.Rules.{kept, Keeps, joined, Joins};
+ghost use Rattle.std.specs.Prelude.{◌≡◌, ℕ};
+ghost use Rattle.graph.specs.Rules.{kept, Keeps, joined, Joins};
 
 // Where a move leads: 0 where there is no edge that may be taken, else the node come to, plus 1; and what the edge costs.
 #[derive(Clone, Copy)]
@@ -21,8 +19,8 @@ pub trait Rule {
 
     // Costs are in no contract: they only steer which walk is found.
     fn edge(&self, node: usize, by: usize) -> Edge
-        requires { ⌜ can (now self) node by ⌝ }
-        ensures { λ r. ⌜ r .target ≡ next (now (self .entry)) node by ⌝ };
+        requires { can self.now node by }
+        ensures { result.target ≡ next self.now node by };
 }
 
 // All kept edges, at no cost.
@@ -32,10 +30,10 @@ pub struct Kept<'a> {
     pub width: usize,
 }
 
-pub impl Rule for Kept<'_> as KeptRule {
-    ghost can = { λ s. Keeps (now (s .edges)) (s .width) };
+impl Rule for Kept<'_> {
+    ghost can = { λ s. Keeps s.edges.now s.width };
 
-    ghost next = { λ s. kept (now (s .edges)) (s .width) };
+    ghost next = { λ s. kept s.edges.now s.width };
 
     fn edge(&self, node: usize, by: usize) -> Edge {
         Edge {
@@ -52,10 +50,10 @@ pub struct Joined<R> {
     pub shift: usize,
 }
 
-pub impl<R: Rule> Rule for Joined<R> as JoinedRule {
-    ghost can = { λ s. Joins (R·Rule .can (s .rule)) (R·Rule .next (s .rule)) (s .shift) };
+impl<R: Rule> Rule for Joined<R> {
+    ghost can = { λ s. Joins (R.Rule.can s.rule) (R.Rule.next s.rule) s.shift };
 
-    ghost next = { λ s. joined (R·Rule .next (s .rule)) (s .shift) };
+    ghost next = { λ s. joined (R.Rule.next s.rule) s.shift };
 
     fn edge(&self, node: usize, by: usize) -> Edge {
         let first = self.rule.edge(node, by);

@@ -1,17 +1,16 @@
 // Reads a walk back that a search found. The search keeps only the node that each was come to from, so that its inner loop
 // writes little; the moves are found again here.
-ghost use mathlib.Core.Path.{_≡_};
-ghost use Prim.Native.Nat.{ℕ, suc, _+_, _^_, _<_, _≤_};
-ghost use lib.ListN.{length};
-ghost use Rattle·graph·specs.Walks.{Leads};
-ghost use Rattle·graph·specs.Search.{Links};
-ghost use Rattle·graph·specs.Back.{Traced, Written, Told};
+ghost use Rattle.std.specs.Prelude.{◌≡◌, ℕ, suc, ◌+◌, ◌^◌, ◌<◌, ◌≤◌, length};
+ghost use Rattle.graph.specs.Walks.{Leads};
+ghost use Rattle.graph.specs.Search.{Links};
+ghost use Rattle.graph.specs.Back.{Traced, Written, Told};
+
 use crate::rules::Rule;
 
 // How many links lead from `to` back to the start.
 fn count_links(from: &[u32], to: usize) -> usize
-    requires { ⌜ ((d : ℕ) × Links (now from) d to) ⌝ }
-    ensures { λ r. ⌜ Links (now (from .entry)) r to ⌝ }
+    requires { (d : ℕ) × Links from.now d to }
+    ensures { Links from.now result to }
 {
     let mut node = to;
     let mut len = 0;
@@ -25,11 +24,11 @@ fn count_links(from: &[u32], to: usize) -> usize
 // The first move that leads from `node` to `to`. Where several do, at different costs, it may not be the one that the search
 // counted.
 fn find_move<R: Rule>(rule: &R, moves: usize, node: usize, to: usize) -> usize
-    requires may { ⌜ ((m : ℕ) → m < moves → can (now rule) node m) ⌝ }
-    requires leads { ⌜ Leads (next (now rule)) moves node to ⌝ }
-    requires fits { ⌜ to + 1 < 2 ^ 64 ⌝ }
-    ensures below { λ r. ⌜ r < moves ⌝ }
-    ensures leads { λ r. ⌜ next (now (rule .entry)) node r ≡ suc to ⌝ }
+    requires may { (m : ℕ) → m < moves → can rule.now node m }
+    requires leads { Leads (next rule.now) moves node to }
+    requires fits { to + 1 < 2 ^ 64 }
+    ensures below { result < moves }
+    ensures leads { next rule.now node result ≡ suc to }
 {
     for m in 0..moves {
         if rule.edge(node, m).target as usize == to + 1 {
@@ -41,11 +40,11 @@ fn find_move<R: Rule>(rule: &R, moves: usize, node: usize, to: usize) -> usize
 
 // Writes the moves of the walk to `to` into the first `len` words, the last move first.
 fn fill_path<R: Rule>(rule: &R, moves: usize, from: &[u32], to: usize, len: usize, path: &mut [u32])
-    requires few { ⌜ moves ≤ 2 ^ 32 ⌝ }
-    requires traced { ⌜ Traced (can (now rule)) (next (now rule)) moves (now from) to ⌝ }
-    requires links { ⌜ Links (now from) len to ⌝ }
-    requires room { ⌜ len ≤ length (now path) ⌝ }
-    ensures { λ _. ⌜ Written (next (now (rule .entry))) moves to len (now (path .entry)) (now (path .exit)) ⌝ }
+    requires few { moves ≤ 2 ^ 32 }
+    requires traced { Traced (can rule.now) (next rule.now) moves from.now to }
+    requires links { Links from.now len to }
+    requires room { len ≤ length path.old }
+    ensures { Written (next rule.now) moves to len path.old path.new }
 {
     let mut node = to;
     let mut at = len;
@@ -66,9 +65,9 @@ pub fn walk_back<R: Rule>(
     to: usize,
     path: &mut [u32],
 ) -> Option<usize>
-    requires few { ⌜ moves ≤ 2 ^ 32 ⌝ }
-    requires traced { ⌜ Traced (can (now rule)) (next (now rule)) moves (now from) to ⌝ }
-    ensures { λ r. ⌜ Told (next (now (rule .entry))) moves to (now (path .entry)) (now (path .exit)) r ⌝ }
+    requires few { moves ≤ 2 ^ 32 }
+    requires traced { Traced (can rule.now) (next rule.now) moves from.now to }
+    ensures { Told (next rule.now) moves to path.old path.new result }
 {
     let len = count_links(from, to);
     if len > path.len() {

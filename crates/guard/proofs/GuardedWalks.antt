@@ -1,26 +1,21 @@
 -- Walks over the kept edges that guards leave are the runs under these guards.
-use mathlib.Core.Path.{_≡_, refl, sym, ap, subst, _∙_}
-use mathlib.Core.Logic.{_⊎_, inl, inr}
-use mathlib.Core.List.{List, [], _∷_, map}
+use Rattle.std.proofs.Common.{◌≡◌, ℕ, zero, suc, ◌*◌, ◌<◌, ◌≤◌, ◌⊎◌, List, [], ◌∷◌, map, length, sym, refl, ap, ◌∙◌, subst, inl, inr, arith}
 use mathlib.Core.Option.{some, none}
-use Prim.Native.Nat.{ℕ, zero, suc, _*_, _<_, _≤_}
-use native.Mathlib.Omega.{arith}
-use lib.Bits.{bitAnd}
-use lib.ListN.{length}
-use Rattle·model.specs.Code.{Prog}
-use Rattle·model.specs.Machine.{St, Move, move, moves, begin}
-use Rattle·model.specs.Guards.{Guard, gmove, gmoves, hit, hits}
-use Rattle·model.proofs.Tools.{opt-some, opt-is, some-is, none-some}
-use Rattle·model.proofs.RunsUnderGuards.{gmove-move, move-gmove, no-more-states}
-use Rattle·graph.specs.Rules.{kept, Ahead}
-use Rattle·graph.specs.Walks.{Walk, Fewer}
-use Rattle·graph.specs.Search.{Marked, Searched}
-use Rattle·explore.specs.Found.{moves-of, move-of, state, Explored}
-use Rattle·explore.proofs.Edges.{word-within}
-use Rattle·guard·specs.Masks.{masked, mask}
-use Rattle·guard·specs.Rules.{hit-bits, unless, guarded, Askable}
-use Rattle·guard·proofs.Passing.{free-clear, clear-free, run-clear}
-use Rattle·explore.proofs.KeptEdges.{move-number, begins, threads-of, words-of, leads, stuck}
+use lib.Bits.{bit_and}
+use Rattle.model.specs.Code.{Prog}
+use Rattle.model.specs.Machine.{St, Move, move, moves, begin}
+use Rattle.model.specs.Guards.{Guard, gmove, gmoves, hit, hits}
+use Rattle.model.proofs.Tools.{opt-some, opt-is, some_is, none-some}
+use Rattle.model.proofs.RunsUnderGuards.{gmove-move, move-gmove, no-more-states}
+use Rattle.graph.specs.Rules.{kept, Ahead}
+use Rattle.graph.specs.Walks.{Walk, Fewer}
+use Rattle.graph.specs.Search.{Marked, Searched}
+use Rattle.explore.specs.Found.{moves_of, move-of, state, Explored}
+use Rattle.explore.proofs.Edges.{word-within}
+use Rattle.guard.specs.Masks.{masked, mask}
+use Rattle.guard.specs.Rules.{hit-bits, unless, guarded, Askable}
+use Rattle.guard.proofs.Passing.{free-clear, clear-free, run-clear}
+use Rattle.explore.proofs.KeptEdges.{move-number, begins, threads-of, words_of, leads, stuck}
 
 pub hit-bits-is : (t : ℕ) (q : List ℕ) (i m : ℕ) → hit-bits t q i m ≡ mask (hit (state t q i) (move-of t m))
 unfolding hit-bits
@@ -41,44 +36,44 @@ from-same : (g : Guard) (p : Prog) (s t u : St) (ms : List Move) → s ≡ t →
 from-same g p s t u ms e h = ap (λ (z : St). gmoves g p z ms) e ∙ h
 
 -- guards only take edges away
-pub guarded-fewer : (t : ℕ) (q g : List ℕ) (guards : ℕ) → Fewer (guarded t q g guards) (kept g (moves-of t))
-guarded-fewer t q g guards i m = unless-or (bitAnd (hit-bits t q i m) guards) (kept g (moves-of t) i m)
+pub guarded-fewer : (t : ℕ) (q g : List ℕ) (guards : ℕ) → Fewer (guarded t q g guards) (kept g (moves_of t))
+guarded-fewer t q g guards i m = unless-or (bit_and (hit-bits t q i m) guards) (kept g (moves_of t) i m)
 
 module _ (p : Prog) (q g : List ℕ) (n t : ℕ) (count : length p ≡ t) (x : Explored p q g n) (guards : ℕ) where
   -- what a search asks of the rule
-  pub guarded-ahead : t ≤ 4 → n * moves-of t ≤ length g → Ahead (Askable t q g) (guarded t q g guards) (moves-of t) n
+  pub guarded-ahead : t ≤ 4 → n * moves_of t ≤ length g → Ahead (Askable t q g) (guarded t q g guards) (moves_of t) n
   guarded-ahead few room =
-      let left : (i m j : ℕ) → guarded t q g guards i m ≡ suc j → kept g (moves-of t) i m ≡ suc j =
-      λ i m j e. unless-some (bitAnd (hit-bits t q i m) guards) (kept g (moves-of t) i m) j e .1 in
+      let left : (i m j : ℕ) → guarded t q g guards i m ≡ suc j → kept g (moves_of t) i m ≡ suc j =
+      λ i m j e. (unless-some (bit_and (hit-bits t q i m) guards) (kept g (moves_of t) i m) j e).1 in
       record {
-        may = λ i m h l. record { few = few; words = words-of p q g n t count x i h; edge = word-within i n n (moves-of t) m (length g) h (omega arith) l room };
-        up = λ i m j h l e. leads p q g n t count x i m j h l (left i m j e) .0;
-        within = λ i m j h l e. leads p q g n t count x i m j h l (left i m j e) .1;
+        may = λ i m h l. record { few = few; words = words_of p q g n t count x i h; edge = word-within i n n (moves_of t) m (length g) h (omega arith) l room };
+        up = λ i m j h l e. (leads p q g n t count x i m j h l (left i m j e)).0;
+        within = λ i m j h l e. (leads p q g n t count x i m j h l (left i m j e)).1;
       }
 
   -- one edge that is left is one move under guards
-  edge-move : (i m j : ℕ) → i < n → m < moves-of t → guarded t q g guards i m ≡ suc j → (j < n) × (gmove (masked guards) p (state t q i) (move-of t m) ≡ some (state t q j))
+  edge-move : (i m j : ℕ) → i < n → m < moves_of t → guarded t q g guards i m ≡ suc j → (j < n) × (gmove (masked guards) p (state t q i) (move-of t m) ≡ some (state t q j))
   edge-move i m j h l e =
       let s = state t q i in
-      let (c, k) = unless-some (bitAnd (hit-bits t q i m) guards) (kept g (moves-of t) i m) j e in
+      let (c, k) = unless-some (bit_and (hit-bits t q i m) guards) (kept g (moves_of t) i m) j e in
       let (up, within, mv) = leads p q g n t count x i m j h l k in
-      let f = clear-free guards s (move-of t m) (ap (λ (z : ℕ). bitAnd z guards) (sym (hit-bits-is t q i m)) ∙ c) in
+      let f = clear-free guards s (move-of t m) (ap (λ (z : ℕ). bit_and z guards) (sym (hit-bits-is t q i m)) ∙ c) in
       (within, move-gmove (masked guards) p s (state t q j) (move-of t m) f mv)
 
-  move-edge : (i m : ℕ) (u : St) → i < n → m < moves-of t → gmove (masked guards) p (state t q i) (move-of t m) ≡ some u → (j : ℕ) × (j < n) × (guarded t q g guards i m ≡ suc j) × (state t q j ≡ u)
+  move-edge : (i m : ℕ) (u : St) → i < n → m < moves_of t → gmove (masked guards) p (state t q i) (move-of t m) ≡ some u → (j : ℕ) × (j < n) × (guarded t q g guards i m ≡ suc j) × (state t q j ≡ u)
   move-edge i m u h l e =
       let (f, mv) = gmove-move (masked guards) p (state t q i) u (move-of t m) e in
-      let c : bitAnd (hit-bits t q i m) guards ≡ 0 = ap (λ (z : ℕ). bitAnd z guards) (hit-bits-is t q i m) ∙ free-clear guards (state t q i) (move-of t m) f in
-      go (kept g (moves-of t) i m) refl mv (ap (λ (z : ℕ). unless z (kept g (moves-of t) i m)) c)
+      let c : bit_and (hit-bits t q i m) guards ≡ 0 = ap (λ (z : ℕ). bit_and z guards) (hit-bits-is t q i m) ∙ free-clear guards (state t q i) (move-of t m) f in
+      go (kept g (moves_of t) i m) refl mv (ap (λ (z : ℕ). unless z (kept g (moves_of t) i m)) c)
     where
-      go : (k : ℕ) → kept g (moves-of t) i m ≡ k → move p (state t q i) (move-of t m) ≡ some u → guarded t q g guards i m ≡ kept g (moves-of t) i m → (j : ℕ) × (j < n) × (guarded t q g guards i m ≡ suc j) × (state t q j ≡ u)
+      go : (k : ℕ) → kept g (moves_of t) i m ≡ k → move p (state t q i) (move-of t m) ≡ some u → guarded t q g guards i m ≡ kept g (moves_of t) i m → (j : ℕ) × (j < n) × (guarded t q g guards i m ≡ suc j) × (state t q j ≡ u)
       go zero k mv is = absurd (none-some (sym (stuck p q g n t count x i m h l k) ∙ mv))
       go (suc j) k mv is =
           let (up, within, at) = leads p q g n t count x i m j h l k in
-          (j, within, is ∙ k, some-is (sym at ∙ mv))
+          (j, within, is ∙ k, some_is (sym at ∙ mv))
 
   -- the same of any move that can be made: it has a number
-  any-move-edge : (i : ℕ) (m : Move) (u : St) → i < n → gmove (masked guards) p (state t q i) m ≡ some u → (b j : ℕ) × (b < moves-of t) × (move-of t b ≡ m) × (j < n) × (guarded t q g guards i b ≡ suc j) × (state t q j ≡ u)
+  any-move-edge : (i : ℕ) (m : Move) (u : St) → i < n → gmove (masked guards) p (state t q i) m ≡ some u → (b j : ℕ) × (b < moves_of t) × (move-of t b ≡ m) × (j < n) × (guarded t q g guards i b ≡ suc j) × (state t q j ≡ u)
   any-move-edge i m u h e =
       let (f, mv) = gmove-move (masked guards) p (state t q i) u m e in
       let (b, l, is) = move-number p (state t q i) u t m (threads-of p q g n t count x i h) mv in
@@ -86,27 +81,27 @@ module _ (p : Prog) (q g : List ℕ) (n t : ℕ) (count : length p ≡ t) (x : E
       (b, j, l, is, within, edge, su)
 
   -- a walk is a run
-  pub walk-run-from : (ms : List ℕ) (i j : ℕ) → i < n → Walk (guarded t q g guards) (moves-of t) i ms j → gmoves (masked guards) p (state t q i) (map (move-of t) ms) ≡ some (state t q j)
+  pub walk-run-from : (ms : List ℕ) (i j : ℕ) → i < n → Walk (guarded t q g guards) (moves_of t) i ms j → gmoves (masked guards) p (state t q i) (map (move-of t) ms) ≡ some (state t q j)
   walk-run-from [] i j h w = ap (λ (k : ℕ). some (state t q k)) w
   walk-run-from (m ∷ ms) i j h w =
-      let (within, e) = edge-move i m (w .0) h (w .1) (w .2) in
-      opt-is (gmove (masked guards) p (state t q i) (move-of t m)) none _ e ∙ walk-run-from ms (w .0) j within (w .3)
+      let (within, e) = edge-move i m w.0 h w.1 w.2 in
+      opt-is (gmove (masked guards) p (state t q i) (move-of t m)) none _ e ∙ walk-run-from ms w.0 j within w.3
 
-  pub walk-run : (ms : List ℕ) (j : ℕ) → Walk (guarded t q g guards) (moves-of t) 0 ms j → gmoves (masked guards) p (begin p) (map (move-of t) ms) ≡ some (state t q j)
+  pub walk-run : (ms : List ℕ) (j : ℕ) → Walk (guarded t q g guards) (moves_of t) 0 ms j → gmoves (masked guards) p (begin p) (map (move-of t) ms) ≡ some (state t q j)
   walk-run ms j w =
       subst (λ (s : St). gmoves (masked guards) p s (map (move-of t) ms) ≡ some (state t q j)) (begins p q g n t count x)
-      (walk-run-from ms 0 j (x .found .some-found) w)
+      (walk-run-from ms 0 j x.found.some-found w)
 
-  pub walk-moves : (ms : List ℕ) (j : ℕ) → Walk (guarded t q g guards) (moves-of t) 0 ms j → moves p (begin p) (map (move-of t) ms) ≡ some (state t q j)
+  pub walk-moves : (ms : List ℕ) (j : ℕ) → Walk (guarded t q g guards) (moves_of t) 0 ms j → moves p (begin p) (map (move-of t) ms) ≡ some (state t q j)
   walk-moves ms j w = no-more-states (masked guards) p (begin p) (state t q j) (map (move-of t) ms) (walk-run ms j w)
 
   -- and passes no guard
-  pub walk-clear : (ms : List ℕ) (j : ℕ) → Walk (guarded t q g guards) (moves-of t) 0 ms j → bitAnd (mask (hits p (begin p) (map (move-of t) ms))) guards ≡ 0
+  pub walk-clear : (ms : List ℕ) (j : ℕ) → Walk (guarded t q g guards) (moves_of t) 0 ms j → bit_and (mask (hits p (begin p) (map (move-of t) ms))) guards ≡ 0
   walk-clear ms j w = run-clear guards p (begin p) (state t q j) (map (move-of t) ms) (walk-run ms j w)
 
   -- a run is a walk
-  pub run-walk-from : (ms : List Move) (i : ℕ) (s : St) → i < n → gmoves (masked guards) p (state t q i) ms ≡ some s → (ns : List ℕ) × (j : ℕ) × (j < n) × (state t q j ≡ s) × (map (move-of t) ns ≡ ms) × Walk (guarded t q g guards) (moves-of t) i ns j
-  run-walk-from [] i s h e = ([], i, h, some-is e, refl, refl)
+  pub run-walk-from : (ms : List Move) (i : ℕ) (s : St) → i < n → gmoves (masked guards) p (state t q i) ms ≡ some s → (ns : List ℕ) × (j : ℕ) × (j < n) × (state t q j ≡ s) × (map (move-of t) ns ≡ ms) × Walk (guarded t q g guards) (moves_of t) i ns j
+  run-walk-from [] i s h e = ([], i, h, some_is e, refl, refl)
   run-walk-from (m ∷ ms) i s h e =
       let (u, eu, e1) = opt-some (gmove (masked guards) p (state t q i) m) _ e in
       let (b, k, l, is, hk, edge, su) = any-move-edge i m u h eu in
@@ -114,15 +109,15 @@ module _ (p : Prog) (q g : List ℕ) (n t : ℕ) (count : length p ≡ t) (x : E
       let (ns, j, hj, sj, same, w) = run-walk-from ms k s hk e2 in
       (b ∷ ns, j, hj, sj, same-moves (move-of t b) m (map (move-of t) ns) ms is same, (k, l, edge, w))
 
-  pub run-walk : (ms : List Move) (s : St) → gmoves (masked guards) p (begin p) ms ≡ some s → (ns : List ℕ) × (j : ℕ) × (j < n) × (state t q j ≡ s) × (map (move-of t) ns ≡ ms) × Walk (guarded t q g guards) (moves-of t) 0 ns j
+  pub run-walk : (ms : List Move) (s : St) → gmoves (masked guards) p (begin p) ms ≡ some s → (ns : List ℕ) × (j : ℕ) × (j < n) × (state t q j ≡ s) × (map (move-of t) ns ≡ ms) × Walk (guarded t q g guards) (moves_of t) 0 ns j
   run-walk ms s e =
-      run-walk-from ms 0 s (x .found .some-found) (ap (λ (z : St). gmoves (masked guards) p z ms) (begins p q g n t count x) ∙ e)
+      run-walk-from ms 0 s x.found.some-found (ap (λ (z : St). gmoves (masked guards) p z ms) (begins p q g n t count x) ∙ e)
 
   -- a search marks exactly the states that runs under the guards come to
-  pub marked-run : (cost from : List ℕ) (j : ℕ) → Searched (guarded t q g guards) (moves-of t) n cost from → j < n → Marked cost j → (ms : List Move) × (gmoves (masked guards) p (begin p) ms ≡ some (state t q j))
-  marked-run cost from j s h m = let (ns, w) = s .reached j h m in (map (move-of t) ns, walk-run ns j w)
+  pub marked-run : (cost from : List ℕ) (j : ℕ) → Searched (guarded t q g guards) (moves_of t) n cost from → j < n → Marked cost j → (ms : List Move) × (gmoves (masked guards) p (begin p) ms ≡ some (state t q j))
+  marked-run cost from j s h m = let (ns, w) = s.reached j h m in (map (move-of t) ns, walk-run ns j w)
 
-  pub run-marked : (cost from : List ℕ) (ms : List Move) (u : St) → Searched (guarded t q g guards) (moves-of t) n cost from → gmoves (masked guards) p (begin p) ms ≡ some u → (j : ℕ) × (j < n) × (state t q j ≡ u) × Marked cost j
+  pub run-marked : (cost from : List ℕ) (ms : List Move) (u : St) → Searched (guarded t q g guards) (moves_of t) n cost from → gmoves (masked guards) p (begin p) ms ≡ some u → (j : ℕ) × (j < n) × (state t q j ≡ u) × Marked cost j
   run-marked cost from ms u s e =
       let (ns, j, h, sj, same, w) = run-walk ms u e in
-      (j, h, sj, s .all j ns w .1)
+      (j, h, sj, (s.all j ns w).1)

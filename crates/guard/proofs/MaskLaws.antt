@@ -1,32 +1,26 @@
 -- Sets of spots as numbers: which bits are set.
-use mathlib.Core.Path.{_≡_, sym, ap, _∙_}
-use mathlib.Core.Logic.{_⊎_, inl, inr}
-use mathlib.Core.Bool.{true, false}
-use mathlib.Core.List.{List, [], _∷_, _++_}
-use Prim.Native.Nat.{ℕ, _^_, _<_, _≤_}
-use native.Mathlib.Omega.{arith}
-use lib.Bits.{bitAnd, bitOr, or-lt, or-zero-l}
-use lib.Dec.{eqb, ltb}
-use Rattle·std.proofs.shelf.Bits.{pow-below}
-use Rattle·std.proofs.shelf.Tests.{cases-lt, cases-eq, lt-ltb, le-ltb, and-from, and-left, and-right}
-use Rattle·model.specs.Code.{pick}
-use Rattle·model.specs.Fences.{Spot}
-use Rattle·model.specs.Guards.{On, on-first, on-more}
-use Rattle·model.proofs.Tools.{false-true, and-both, eqb-is}
-use Rattle·model.proofs.RunsUnderGuards.{on-inv}
-use Rattle·hitting.specs.Masks.{bit}
-use Rattle·hitting.proofs.Bits.{bit-lt, bit-or, bit-one, bit-other, some-bit, same-bits, shared-bit, bit-shared}
-use Rattle·guard·specs.Masks.{place, has-place, bit-of, masked, mask}
+use Rattle.std.proofs.Common.{◌≡◌, ℕ, ◌^◌, ◌<◌, ◌≤◌, true, false, eqb, ltb, ◌⊎◌, List, [], ◌∷◌, ◌++◌, sym, ap, ◌∙◌, inl, inr, arith}
+use lib.Bits.{bit_and, bit_or, or_lt, or_zero_l}
+use Rattle.std.proofs.lemmas.Nat.{pow_below}
+use Rattle.std.proofs.lemmas.Bool.{cases_lt, cases_eq, lt-ltb, le-ltb, and_from, and_left, and_right}
+use Rattle.model.specs.Code.{pick}
+use Rattle.model.specs.Fences.{Spot}
+use Rattle.model.specs.Guards.{On, on-first, on-more}
+use Rattle.model.proofs.Tools.{false-true, and_both, eqb_is}
+use Rattle.model.proofs.RunsUnderGuards.{on-inv}
+use Rattle.hitting.specs.Masks.{bit}
+use Rattle.hitting.proofs.Bits.{bit-lt, bit-or, bit-one, bit-other, some-bit, same_bits, shared-bit, bit-shared}
+use Rattle.guard.specs.Masks.{place, has-place, bit-of, masked, mask}
 
 -- which spots have a bit
 pub placed : (n k : ℕ) → n < 4 → k < 8 → has-place n k ≡ true
-placed n k h l = and-from (ltb n 4) (ltb k 8) (lt-ltb n 4 h) (lt-ltb k 8 l)
+placed n k h l = and_from (ltb n 4) (ltb k 8) (lt-ltb n 4 h) (lt-ltb k 8 l)
 
 pub placed-or : (n k : ℕ) → ((n < 4) × (k < 8)) ⊎ (has-place n k ≡ false)
 placed-or n k =
-    elim (cases-lt n 4) [
-      | inl h ↦ elim (cases-lt k 8) [ inl l ↦ inl (h, l) | inr l ↦ inr (and-right (ltb n 4) (ltb k 8) (le-ltb k 8 l)) ]
-      | inr h ↦ inr (and-left (ltb n 4) (ltb k 8) (le-ltb n 4 h))
+    elim (cases_lt n 4) [
+      | inl h ↦ elim (cases_lt k 8) [ inl l ↦ inl (h, l) | inr l ↦ inr (and_right (ltb n 4) (ltb k 8) (le-ltb k 8 l)) ]
+      | inr h ↦ inr (and_left (ltb n 4) (ltb k 8) (le-ltb n 4 h))
     ]
 
 -- one spot
@@ -39,12 +33,12 @@ unfolding bit-of
 bit-of-none n k e = ap (λ b. pick b (2 ^ place n k) 0) e
 
 pub bit-of-past : (n k : ℕ) → 8 ≤ k → bit-of n k ≡ 0
-bit-of-past n k h = bit-of-none n k (and-right (ltb n 4) (ltb k 8) (le-ltb k 8 h))
+bit-of-past n k h = bit-of-none n k (and_right (ltb n 4) (ltb k 8) (le-ltb k 8 h))
 
 pub bit-of-below : (n k : ℕ) → bit-of n k < 2 ^ 32
 bit-of-below n k =
     elim (placed-or n k) [
-      | inl h ↦ let e = bit-of-is n k (h .0) (h .1) in let p = pow-below (place n k) 32 (omega arith) in omega arith
+      | inl h ↦ let e = bit-of-is n k h.0 h.1 in let p = pow_below (place n k) 32 (omega arith) in omega arith
       | inr z ↦ let e = bit-of-none n k z in omega arith
     ]
 
@@ -52,8 +46,8 @@ bit-set : (n k b : ℕ) → bit (bit-of n k) b ≡ 1 → (n < 4) × (k < 8) × (
 bit-set n k b e =
     elim (placed-or n k) [
       | inl h ↦
-          let f : bit (2 ^ place n k) b ≡ 1 = ap (λ x. bit x b) (sym (bit-of-is n k (h .0) (h .1))) ∙ e in
-          elim (cases-eq b (place n k)) [ inl s ↦ (h .0, h .1, sym s) | inr ne ↦ let z = bit-other (place n k) b ne in absurd (omega arith) ]
+          let f : bit (2 ^ place n k) b ≡ 1 = ap (λ x. bit x b) (sym (bit-of-is n k h.0 h.1)) ∙ e in
+          elim (cases_eq b (place n k)) [ inl s ↦ (h.0, h.1, sym s) | inr ne ↦ let z = bit-other (place n k) b ne in absurd (omega arith) ]
       | inr z ↦ let s = some-bit (bit-of n k) b e in let o = bit-of-none n k z in absurd (omega arith)
     ]
 
@@ -61,39 +55,39 @@ bit-set n k b e =
 pub masked-at : (g n k : ℕ) → masked g n k ≡ true → (n < 4) × (k < 8) × (bit g (place n k) ≡ 1)
 unfolding masked
 masked-at g n k e =
-    let (h, b) = and-both (has-place n k) (eqb (bit g (place n k)) 1) e in
-    elim (placed-or n k) [ inl l ↦ (l .0, l .1, eqb-is (bit g (place n k)) 1 b) | inr z ↦ absurd (false-true (sym z ∙ h)) ]
+    let (h, b) = and_both (has-place n k) (eqb (bit g (place n k)) 1) e in
+    elim (placed-or n k) [ inl l ↦ (l.0, l.1, eqb_is (bit g (place n k)) 1 b) | inr z ↦ absurd (false-true (sym z ∙ h)) ]
 
 pub at-masked : (g n k : ℕ) → n < 4 → k < 8 → bit g (place n k) ≡ 1 → masked g n k ≡ true
 unfolding masked
-at-masked g n k h l e = and-from (has-place n k) (eqb (bit g (place n k)) 1) (placed n k h l) (ap (λ b. eqb b 1) e)
+at-masked g n k h l e = and_from (has-place n k) (eqb (bit g (place n k)) 1) (placed n k h l) (ap (λ b. eqb b 1) e)
 
 -- the spots of a list, as bits and back
-pub mask-below : (ss : List Spot) → mask ss < 2 ^ 32
-mask-below [] = omega arith
-mask-below (s ∷ ss) = or-lt 32 (bit-of (s .thread) (s .index)) (mask ss) (bit-of-below (s .thread) (s .index)) (mask-below ss)
+pub mask_below : (ss : List Spot) → mask ss < 2 ^ 32
+mask_below [] = omega arith
+mask_below (s ∷ ss) = or_lt 32 (bit-of s.thread s.index) (mask ss) (bit-of-below s.thread s.index) (mask_below ss)
 
-pub on-mask : (ss : List Spot) (a : Spot) → On a ss → a .thread < 4 → a .index < 8 → bit (mask ss) (place (a .thread) (a .index)) ≡ 1
+pub on-mask : (ss : List Spot) (a : Spot) → On a ss → a.thread < 4 → a.index < 8 → bit (mask ss) (place a.thread a.index) ≡ 1
 on-mask [] a o h l = absurd (on-inv o)
 on-mask (s ∷ ss) a o h l =
-    let b = place (a .thread) (a .index) in
-    let or = bit-or (bit-of (s .thread) (s .index)) (mask ss) b in
-    let x = bit-lt (bit-of (s .thread) (s .index)) b in
+    let b = place a.thread a.index in
+    let or = bit-or (bit-of s.thread s.index) (mask ss) b in
+    let x = bit-lt (bit-of s.thread s.index) b in
     let y = bit-lt (mask ss) b in
     elim (on-inv o) [
       | inl e ↦
-          let f : bit (bit-of (s .thread) (s .index)) b ≡ 1 = ap (λ (z : Spot). bit (bit-of (z .thread) (z .index)) b) (sym e) ∙ ap (λ z. bit z b) (bit-of-is (a .thread) (a .index) h l) ∙ bit-one b in
+          let f : bit (bit-of s.thread s.index) b ≡ 1 = ap (λ (z : Spot). bit (bit-of z.thread z.index) b) (sym e) ∙ ap (λ z. bit z b) (bit-of-is a.thread a.index h l) ∙ bit-one b in
           omega arith
       | inr m ↦ let i = on-mask ss a m h l in omega arith
     ]
 
-pub mask-on : (ss : List Spot) (b : ℕ) → bit (mask ss) b ≡ 1 → (a : Spot) × On a ss × (a .thread < 4) × (a .index < 8) × (place (a .thread) (a .index) ≡ b)
+pub mask-on : (ss : List Spot) (b : ℕ) → bit (mask ss) b ≡ 1 → (a : Spot) × On a ss × (a.thread < 4) × (a.index < 8) × (place a.thread a.index ≡ b)
 mask-on [] b e = let z = some-bit 0 b e in absurd (omega arith)
 mask-on (s ∷ ss) b e =
-    let x = bit-lt (bit-of (s .thread) (s .index)) b in
-    let or = bit-or (bit-of (s .thread) (s .index)) (mask ss) b in
-    elim (cases-eq (bit (bit-of (s .thread) (s .index)) b) 1) [
-      | inl f ↦ let (h, l, q) = bit-set (s .thread) (s .index) b f in (s, on-first, h, l, q)
+    let x = bit-lt (bit-of s.thread s.index) b in
+    let or = bit-or (bit-of s.thread s.index) (mask ss) b in
+    elim (cases_eq (bit (bit-of s.thread s.index) b) 1) [
+      | inl f ↦ let (h, l, q) = bit-set s.thread s.index b f in (s, on-first, h, l, q)
       | inr f ↦
           let y = bit-lt (mask ss) b in
           let (a, o, h, l, q) = mask-on ss b (omega arith) in
@@ -101,33 +95,33 @@ mask-on (s ∷ ss) b e =
     ]
 
 -- one list behind another
-or-assoc : (n x y z : ℕ) → x < 2 ^ n → y < 2 ^ n → z < 2 ^ n → bitOr (bitOr x y) z ≡ bitOr x (bitOr y z)
-or-assoc n x y z h k l =
-    same-bits n (bitOr (bitOr x y) z) (bitOr x (bitOr y z)) (or-lt n (bitOr x y) z (or-lt n x y h k) l) (or-lt n x (bitOr y z) h (or-lt n y z k l))
-    (λ b u. let a = bit-or (bitOr x y) z b in let c = bit-or x y b in let d = bit-or x (bitOr y z) b in let e = bit-or y z b in omega arith)
+or_assoc : (n x y z : ℕ) → x < 2 ^ n → y < 2 ^ n → z < 2 ^ n → bit_or (bit_or x y) z ≡ bit_or x (bit_or y z)
+or_assoc n x y z h k l =
+    same_bits n (bit_or (bit_or x y) z) (bit_or x (bit_or y z)) (or_lt n (bit_or x y) z (or_lt n x y h k) l) (or_lt n x (bit_or y z) h (or_lt n y z k l))
+    (λ b u. let a = bit-or (bit_or x y) z b in let c = bit-or x y b in let d = bit-or x (bit_or y z) b in let e = bit-or y z b in omega arith)
 
-pub mask-append : (ss ts : List Spot) → mask (ss ++ ts) ≡ bitOr (mask ss) (mask ts)
-mask-append [] ts = sym (or-zero-l (mask ts))
-mask-append (s ∷ ss) ts =
-    ap (bitOr (bit-of (s .thread) (s .index))) (mask-append ss ts)
-    ∙ sym (or-assoc 32 (bit-of (s .thread) (s .index)) (mask ss) (mask ts) (bit-of-below (s .thread) (s .index)) (mask-below ss) (mask-below ts))
+pub mask_append : (ss ts : List Spot) → mask (ss ++ ts) ≡ bit_or (mask ss) (mask ts)
+mask_append [] ts = sym (or_zero_l (mask ts))
+mask_append (s ∷ ss) ts =
+    ap (bit_or (bit-of s.thread s.index)) (mask_append ss ts)
+    ∙ sym (or_assoc 32 (bit-of s.thread s.index) (mask ss) (mask ts) (bit-of-below s.thread s.index) (mask_below ss) (mask_below ts))
 
-pub or-append : (x : ℕ) (ss ts : List Spot) → x < 2 ^ 32 → bitOr (bitOr x (mask ss)) (mask ts) ≡ bitOr x (mask (ss ++ ts))
-or-append x ss ts h = or-assoc 32 x (mask ss) (mask ts) h (mask-below ss) (mask-below ts) ∙ ap (bitOr x) (sym (mask-append ss ts))
+pub or-append : (x : ℕ) (ss ts : List Spot) → x < 2 ^ 32 → bit_or (bit_or x (mask ss)) (mask ts) ≡ bit_or x (mask (ss ++ ts))
+or-append x ss ts h = or_assoc 32 x (mask ss) (mask ts) h (mask_below ss) (mask_below ts) ∙ ap (bit_or x) (sym (mask_append ss ts))
 
 -- no spot of the list is guarded
-pub apart-clear : (g : ℕ) (ss : List Spot) → ((a : Spot) → On a ss → masked g (a .thread) (a .index) ≡ true → ⊥) → bitAnd (mask ss) g ≡ 0
+pub apart-clear : (g : ℕ) (ss : List Spot) → ((a : Spot) → On a ss → masked g a.thread a.index ≡ true → ⊥) → bit_and (mask ss) g ≡ 0
 apart-clear g ss f =
-    elim (cases-eq (bitAnd (mask ss) g) 0) [
+    elim (cases_eq (bit_and (mask ss) g) 0) [
       | inl e ↦ e
       | inr ne ↦
-          let (b, i, o, s) = shared-bit 32 (mask ss) g (mask-below ss) (omega arith) in
+          let (b, i, o, s) = shared-bit 32 (mask ss) g (mask_below ss) (omega arith) in
           let (a, on, h, l, q) = mask-on ss b o in
-          absurd (f a on (at-masked g (a .thread) (a .index) h l (ap (bit g) q ∙ s)))
+          absurd (f a on (at-masked g a.thread a.index h l (ap (bit g) q ∙ s)))
     ]
 
-pub clear-apart : (g : ℕ) (ss : List Spot) → bitAnd (mask ss) g ≡ 0 → (a : Spot) → On a ss → masked g (a .thread) (a .index) ≡ true → ⊥
-clear-apart g ss e a o m =
-    let (h, l, s) = masked-at g (a .thread) (a .index) m in
-    let z = bit-shared (mask ss) g (place (a .thread) (a .index)) (on-mask ss a o h l) s in
+pub clear_apart : (g : ℕ) (ss : List Spot) → bit_and (mask ss) g ≡ 0 → (a : Spot) → On a ss → masked g a.thread a.index ≡ true → ⊥
+clear_apart g ss e a o m =
+    let (h, l, s) = masked-at g a.thread a.index m in
+    let z = bit-shared (mask ss) g (place a.thread a.index) (on-mask ss a o h l) s in
     omega arith

@@ -1,61 +1,54 @@
 -- The spots that a run passes stand before instructions of the program, so that each has its bit; and guards at a list of
 -- such spots are the guards of the list's bits.
-use mathlib.Core.Path.{_≡_, sym, ap, subst, _∙_}
-use mathlib.Core.Logic.{inl, inr}
-use mathlib.Core.Bool.{Bool, true, false, _&&_}
-use mathlib.Core.List.{List, [], _∷_, _++_}
+use Rattle.std.proofs.Common.{◌≡◌, ℕ, zero, suc, ◌+◌, ◌*◌, ◌<◌, ◌≤◌, Bool, true, false, ◌&&◌, T, leb, List, [], ◌∷◌, ◌++◌, length, sym, ap, ◌∙◌, subst, inl, inr, arith}
 use mathlib.Core.Option.{some}
-use Prim.Native.Nat.{ℕ, zero, suc, _+_, _*_, _<_, _≤_}
-use native.Mathlib.Omega.{arith}
-use lib.Dec.{T, leb}
-use lib.ListN.{length}
-use Rattle·std.proofs.shelf.Tests.{leb-true}
-use Rattle·model.specs.Code.{pick, nth, Thread, Prog, ok-t, ok-ts, ok}
-use Rattle·model.specs.Machine.{St, Move, next, out, move, moves, empty}
-use Rattle·model.specs.Fences.{Spot}
-use Rattle·model.specs.Guards.{guards, gmoves, hit, hits, On}
-use Rattle·model.proofs.Tools.{opt-some, opt-is, some-is, none-some, T-true, and-both, nth-below, next-of}
-use Rattle·model.proofs.RunsUnderGuards.{on-inv, on-either, on-guards, guards-on, gmoves-less}
-use Rattle·hitting.specs.Masks.{bit}
-use Rattle·guard·specs.Masks.{place, masked, mask}
-use Rattle·guard·proofs.MaskLaws.{masked-at, at-masked, on-mask, mask-on}
+use Rattle.std.proofs.lemmas.Bool.{leb-true}
+use Rattle.model.specs.Code.{pick, nth, Thread, Prog, ok-t, ok-ts, ok}
+use Rattle.model.specs.Machine.{St, Move, next, out, move, moves, empty}
+use Rattle.model.specs.Fences.{Spot}
+use Rattle.model.specs.Guards.{guards, gmoves, hit, hits, On}
+use Rattle.model.proofs.Tools.{opt-some, opt-is, some_is, none-some, T_true, and_both, nth-below, next_of}
+use Rattle.model.proofs.RunsUnderGuards.{on-inv, on-either, on-guards, guards-on, gmoves-less}
+use Rattle.hitting.specs.Masks.{bit}
+use Rattle.guard.specs.Masks.{place, masked, mask}
+use Rattle.guard.proofs.MaskLaws.{masked-at, at-masked, on-mask, mask-on}
 
 -- the spot stands before an instruction
 abbrev pub Stands : Prog → Spot → Type 0
-Stands p a = (c : Thread) × (nth p (a .thread) ≡ some c) × (a .index < length c)
+Stands p a = (c : Thread) × (nth p a.thread ≡ some c) × (a.index < length c)
 
 -- the spot has a bit
 abbrev pub Has-bit : Spot → Type 0
-Has-bit a = (a .thread < 4) × (a .index < 8)
+Has-bit a = (a.thread < 4) × (a.index < 8)
 
 short-thread : (p : Prog) (n : ℕ) (c : Thread) → ok-ts p ≡ true → nth p n ≡ some c → length c ≤ 8
 short-thread [] n c h e = absurd (none-some e)
 short-thread (t ∷ ts) zero c h e =
-    let (l, r) = and-both (leb (length t) 8) (ok-t t && ok-ts ts) h in
+    let (l, r) = and_both (leb (length t) 8) (ok-t t && ok-ts ts) h in
     let k = leb-true (length t) 8 l in
-    let s = ap length (some-is e) in
+    let s = ap length (some_is e) in
     omega arith
 short-thread (t ∷ ts) (suc n) c h e =
-    let (l, r) = and-both (leb (length t) 8) (ok-t t && ok-ts ts) h in
-    let (u, v) = and-both (ok-t t) (ok-ts ts) r in
+    let (l, r) = and_both (leb (length t) 8) (ok-t t && ok-ts ts) h in
+    let (u, v) = and_both (ok-t t) (ok-ts ts) r in
     short-thread ts n c v e
 
 pub stands-bit : (p : Prog) (a : Spot) → T (ok p) → Stands p a → Has-bit a
 stands-bit p a fine s =
     let (c, e, h) = s in
-    let (one, r) = and-both (leb 1 (length p)) (leb (length p) 4 && ok-ts p) (T-true (ok p) fine) in
-    let (four, ts) = and-both (leb (length p) 4) (ok-ts p) r in
+    let (one, r) = and_both (leb 1 (length p)) (leb (length p) 4 && ok-ts p) (T_true (ok p) fine) in
+    let (four, ts) = and_both (leb (length p) 4) (ok-ts p) r in
     let few = leb-true (length p) 4 four in
-    let n = nth-below p (a .thread) e in
-    let k = short-thread p (a .thread) c ts e in
+    let n = nth-below p a.thread e in
+    let k = short-thread p a.thread c ts e in
     (omega arith, omega arith)
 
 -- what moves pass
 hit-stands : (p : Prog) (s u : St) (m : Move) (a : Spot) → move p s m ≡ some u → On a (hit s m) → Stands p a
 hit-stands p s u (next n) a e o =
-    let x = next-of p s n u e in
-    let o′ = subst (λ (z : List Spot). On a z) (opt-is (nth (s .threads) n) [] _ (x .stands)) o in
-    one (empty (x .was .waits)) (x .was .pc) o′ (x .code, x .of, nth-below (x .code) (x .was .pc) (x .at))
+    let x = next_of p s n u e in
+    let o' = subst (λ (z : List Spot). On a z) (opt-is (nth s.threads n) [] _ x.stands) o in
+    one (empty x.was.waits) x.was.pc o' (x.code, x.of, nth-below x.code x.was.pc x.at)
   where
     one : (b : Bool) (k : ℕ) → On a (pick b [] (record { thread = n; index = k } ∷ [])) → Stands p (record { thread = n; index = k }) → Stands p a
     one true k o st = absurd (on-inv o)
@@ -70,17 +63,17 @@ hits-stand p s u (m ∷ ms) a e o =
     elim (on-either (hit s m) (hits p v ms) k) [ inl h ↦ hit-stands p s v m a ev h | inr h ↦ hits-stand p v u ms a e1 h ]
 
 -- every spot that a run passes has its bit set, and every bit that is set is such a spot's
-pub passed-set : (p : Prog) (s u : St) (ms : List Move) (a : Spot) → T (ok p) → moves p s ms ≡ some u → On a (hits p s ms) → bit (mask (hits p s ms)) (place (a .thread) (a .index)) ≡ 1
+pub passed-set : (p : Prog) (s u : St) (ms : List Move) (a : Spot) → T (ok p) → moves p s ms ≡ some u → On a (hits p s ms) → bit (mask (hits p s ms)) (place a.thread a.index) ≡ 1
 passed-set p s u ms a fine e o =
     let (h, l) = stands-bit p a fine (hits-stand p s u ms a e o) in
     on-mask (hits p s ms) a o h l
 
-pub set-passed : (p : Prog) (s : St) (ms : List Move) (b : ℕ) → bit (mask (hits p s ms)) b ≡ 1 → (a : Spot) × On a (hits p s ms) × (place (a .thread) (a .index) ≡ b)
+pub set-passed : (p : Prog) (s : St) (ms : List Move) (b : ℕ) → bit (mask (hits p s ms)) b ≡ 1 → (a : Spot) × On a (hits p s ms) × (place a.thread a.index ≡ b)
 set-passed p s ms b e = let (a, o, h, l, q) = mask-on (hits p s ms) b e in (a, o, q)
 
 -- guards at a list of spots, and at its bits
-same-place : (n k m l : ℕ) → n < 4 → k < 8 → m < 4 → l < 8 → place n k ≡ place m l → (n ≡ m) × (k ≡ l)
-same-place n k m l hn hk hm hl e = let s : 8 * n + k ≡ 8 * m + l = omega arith in (omega arith, omega arith)
+same_place : (n k m l : ℕ) → n < 4 → k < 8 → m < 4 → l < 8 → place n k ≡ place m l → (n ≡ m) × (k ≡ l)
+same_place n k m l hn hk hm hl e = let s : 8 * n + k ≡ 8 * m + l = omega arith in (omega arith, omega arith)
 
 pub guards-masked : (ss : List Spot) → ((a : Spot) → On a ss → Has-bit a) → (n k : ℕ) → guards ss n k ≡ true → masked (mask ss) n k ≡ true
 guards-masked ss all n k e =
@@ -92,8 +85,8 @@ pub masked-guards : (ss : List Spot) (n k : ℕ) → masked (mask ss) n k ≡ tr
 masked-guards ss n k e =
     let (h, l, b) = masked-at (mask ss) n k e in
     let (a, o, ha, la, q) = mask-on ss (place n k) b in
-    let (en, ek) = same-place (a .thread) (a .index) n k ha la h l q in
-    ap (λ (z : ℕ). guards ss z k) (sym en) ∙ ap (guards ss (a .thread)) (sym ek) ∙ on-guards a ss o
+    let (en, ek) = same_place a.thread a.index n k ha la h l q in
+    ap (λ (z : ℕ). guards ss z k) (sym en) ∙ ap (guards ss a.thread) (sym ek) ∙ on-guards a ss o
 
 pub gmoves-masked : (ss : List Spot) (p : Prog) (s u : St) (ms : List Move) → gmoves (guards ss) p s ms ≡ some u → gmoves (masked (mask ss)) p s ms ≡ some u
 gmoves-masked ss p s u ms = gmoves-less (masked (mask ss)) (guards ss) p s u ms (masked-guards ss)

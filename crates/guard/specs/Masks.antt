@@ -1,14 +1,10 @@
 -- Sets of spots as the bits of a number, for four threads of eight instructions: the spot before instruction k of thread n
 -- is the bit 31 - (8 * n + k), so that earlier spots are higher bits.
-use mathlib.Core.Bool.{Bool, _&&_}
-use mathlib.Core.List.{List, [], _∷_}
-use Prim.Native.Nat.{ℕ, _+_, _*_, _-_, _^_}
-use lib.Bits.{bitOr}
-use lib.Dec.{eqb, ltb}
-use Rattle·model.specs.Code.{pick}
-use Rattle·model.specs.Fences.{Spot}
-use Rattle·model.specs.Guards.{Guard}
-use Rattle·hitting.specs.Masks.{bit}
+use Rattle.std.specs.Prelude.{ℕ, ◌+◌, ◌-◌, ◌*◌, ◌^◌, Bool, ◌&&◌, List, [], ◌∷◌, ◌==◌, bit_or, nat_lt}
+use Rattle.model.specs.Code.{pick}
+use Rattle.model.specs.Fences.{Spot}
+use Rattle.model.specs.Guards.{Guard}
+use Rattle.hitting.specs.Masks.{bit}
 
 -- which bit the spot is
 abbrev pub place : ℕ → ℕ → ℕ
@@ -16,7 +12,7 @@ place n k = 31 - (8 * n + k)
 
 -- has the spot a bit
 abbrev pub has-place : ℕ → ℕ → Bool
-has-place n k = ltb n 4 && ltb k 8
+has-place n k = nat_lt n 4 && nat_lt k 8
 
 -- the spot by itself as a number; 0 where it has no bit
 unfoldable pub bit-of : ℕ → ℕ → ℕ
@@ -24,9 +20,9 @@ bit-of n k = pick (has-place n k) (2 ^ place n k) 0
 
 -- a guard at each spot whose bit is set
 unfoldable pub masked : ℕ → Guard
-masked g n k = has-place n k && eqb (bit g (place n k)) 1
+masked g n k = has-place n k && bit g (place n k) == 1
 
 -- the spots of a list as a number
 abbrev pub mask : List Spot → ℕ
 mask [] = 0
-mask (s ∷ ss) = bitOr (bit-of (s .thread) (s .index)) (mask ss)
+mask (s ∷ ss) = bit_or (bit-of s.thread s.index) (mask ss)

@@ -1,16 +1,12 @@
 -- What moves pass, over the words of the states that are explored, and which kept edges guards leave.
-use mathlib.Core.Path.{_≡_}
-use mathlib.Core.List.{List, map}
-use Prim.Native.Nat.{ℕ, zero, suc, _+_, _*_, _<_, _≤_}
-use lib.Bits.{bitAnd}
-use lib.ListN.{length}
-use Rattle·model.specs.Code.{Prog}
-use Rattle·model.specs.Machine.{begin}
-use Rattle·model.specs.Guards.{hit, hits}
-use Rattle·graph.specs.Rules.{kept}
-use Rattle·graph.specs.Walks.{Walk}
-use Rattle·explore.specs.Found.{width, moves-of, move-of, state, Explored}
-use Rattle·guard·specs.Masks.{bit-of, mask}
+use Rattle.std.specs.Prelude.{◌≡◌, ℕ, zero, suc, ◌+◌, ◌*◌, ◌<◌, ◌≤◌, List, map, length, bit_and}
+use Rattle.model.specs.Code.{Prog}
+use Rattle.model.specs.Machine.{begin}
+use Rattle.model.specs.Guards.{hit, hits}
+use Rattle.graph.specs.Rules.{kept}
+use Rattle.graph.specs.Walks.{Walk}
+use Rattle.explore.specs.Found.{width, moves_of, move-of, state, Explored}
+use Rattle.guard.specs.Masks.{bit-of, mask}
 
 -- what the next instruction of thread n passes, if it is instruction pc and so many stores wait
 abbrev pub word-bit : ℕ → ℕ → ℕ → ℕ
@@ -28,14 +24,14 @@ unless (suc k) edge = 0
 
 -- where moves lead that the guards leave
 abbrev pub guarded : ℕ → List ℕ → List ℕ → ℕ → ℕ → ℕ → ℕ
-guarded t q g guards i m = unless (bitAnd (hit-bits t q i m) guards) (kept g (moves-of t) i m)
+guarded t q g guards i m = unless (bit_and (hit-bits t q i m) guards) (kept g (moves_of t) i m)
 
 -- where an edge may be asked for: its word and the state's words are there
 pub record Askable (t : ℕ) (q g : List ℕ) (i m : ℕ) : Type 0 where
   pub few : t ≤ 4
   pub words : i * width t + width t ≤ length q
-  pub edge : i * moves-of t + m < length g
+  pub edge : i * moves_of t + m < length g
 
 -- r is what the moves of the path pass, if they are a walk over the kept edges
 abbrev pub AllHits : ℕ → List ℕ → List ℕ → List ℕ → ℕ → Type 0
-AllHits t q g path r = (p : Prog) (n j : ℕ) → length p ≡ t → Explored p q g n → Walk (kept g (moves-of t)) (moves-of t) 0 path j → r ≡ mask (hits p (begin p) (map (move-of t) path))
+AllHits t q g path r = (p : Prog) (n j : ℕ) → length p ≡ t → Explored p q g n → Walk (kept g (moves_of t)) (moves_of t) 0 path j → r ≡ mask (hits p (begin p) (map (move-of t) path))

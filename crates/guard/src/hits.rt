@@ -1,15 +1,13 @@
 // The spot at which a move does an instruction while something of its thread waits, as a bit.
-ghost use mathlib.Core.Path.{_≡_};
-ghost use Prim.Native.Nat.{_+_, _*_, _/_, _%_, _<_, _≤_};
-ghost use lib.ListN.{length};
-ghost use Rattle·explore.specs.Found.{width};
-ghost use Rattle·guard·specs.Masks.{bit-of};
-ghost use Rattle·guard·specs.Rules.{word-bit, hit-bits};
+ghost use Rattle.std.specs.Prelude.{◌≡◌, ◌+◌, ◌*◌, ◌/◌, ◌%◌, ◌<◌, ◌≤◌, length};
+ghost use Rattle.explore.specs.Found.{width};
+ghost use Rattle.guard.specs.Masks.{bit-of};
+ghost use Rattle.guard.specs.Rules.{word-bit, hit-bits};
 
 // The bit of the spot before instruction `pc` of a thread; none past the eighth.
 fn bit_at(thread: usize, pc: u32) -> u32
-    requires { ⌜ thread < 4 ⌝ }
-    ensures { λ r. ⌜ r ≡ bit-of thread pc ⌝ }
+    requires { thread < 4 }
+    ensures { result ≡ bit-of thread pc }
 {
     if pc >= 8 {
         return 0;
@@ -19,8 +17,8 @@ fn bit_at(thread: usize, pc: u32) -> u32
 
 // What the next instruction of a thread passes, by the thread's first word: nothing where no store waits.
 fn hit_by_word(thread: usize, word: u32) -> u32
-    requires { ⌜ thread < 4 ⌝ }
-    ensures { λ r. ⌜ r ≡ word-bit thread (word / 65536 % 16) (word / 1048576) ⌝ }
+    requires { thread < 4 }
+    ensures { result ≡ word-bit thread (word / 65536 % 16) (word / 1048576) }
 {
     if word >> 20 == 0 {
         return 0;
@@ -30,9 +28,9 @@ fn hit_by_word(thread: usize, word: u32) -> u32
 
 // What move `by` of state `node` passes. A store going out passes nothing.
 pub fn hit(threads: usize, queue: &[u32], node: usize, by: usize) -> u32
-    requires few { ⌜ threads ≤ 4 ⌝ }
-    requires words { ⌜ node * width threads + width threads ≤ length (now queue) ⌝ }
-    ensures { λ r. ⌜ r ≡ hit-bits threads (now (queue .entry)) node by ⌝ }
+    requires few { threads ≤ 4 }
+    requires words { node * width threads + width threads ≤ length queue.now }
+    ensures { result ≡ hit-bits threads queue.now node by }
 {
     if by >= threads {
         return 0;

@@ -1,13 +1,14 @@
 // What a run passes in all.
-ghost use Prim.Native.Nat.{_≤_};
-ghost use Rattle·guard·specs.Rules.{AllHits};
+ghost use Rattle.std.specs.Prelude.{◌≤◌};
+ghost use Rattle.guard.specs.Rules.{AllHits};
+
 use crate::hits::hit;
 
 // All spots that the moves of `path` pass from the first state on, as bits. It stops where a move can't be made, so that any
 // path will do.
 pub fn run_hits(threads: usize, queue: &[u32], edges: &[u32], path: &[u32]) -> u32
-    requires { ⌜ threads ≤ 4 ⌝ }
-    ensures { λ r. ⌜ AllHits threads (now (queue .entry)) (now (edges .entry)) (now (path .entry)) r ⌝ }
+    requires { threads ≤ 4 }
+    ensures { AllHits threads queue.now edges.now path.now result }
 {
     let width = 1 + 3 * threads;
     let moves = 2 * threads;

@@ -1,9 +1,8 @@
 // The rule of guards: an edge may be taken unless it passes a guarded spot while something of its thread waits.
-ghost use denote.Ref.{now};
-ghost use Rattle·guard·specs.Rules.{guarded, Askable};
+ghost use Rattle.guard.specs.Rules.{guarded, Askable};
+
 use crate::hits::hit;
-use graph::rules::Edge;
-use graph::rules::Rule;
+use graph::rules::{Edge, Rule};
 
 // All kept edges but those that the guards forbid. An edge that passes a spot costs 1, so that a search finds runs that
 // pass few.
@@ -15,10 +14,10 @@ pub struct Guarded<'a> {
     pub guards: u32,
 }
 
-pub impl Rule for Guarded<'_> as GuardedRule {
-    ghost can = { λ s. Askable (s .threads) (now (s .queue)) (now (s .edges)) };
+impl Rule for Guarded<'_> {
+    ghost can = { λ s. Askable s.threads s.queue.now s.edges.now };
 
-    ghost next = { λ s. guarded (s .threads) (now (s .queue)) (now (s .edges)) (s .guards) };
+    ghost next = { λ s. guarded s.threads s.queue.now s.edges.now s.guards };
 
     fn edge(&self, node: usize, by: usize) -> Edge {
         let target = self.edges[node * (2 * self.threads) + by];

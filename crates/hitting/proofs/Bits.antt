@@ -1,21 +1,16 @@
 -- Sets told by their bits: when two are the same, one within another, one numerically below another.
-use mathlib.Core.Path.{_≡_, refl, sym, ap, _∙_}
-use mathlib.Core.Logic.{inl, inr}
-use Prim.Native.Nat.{ℕ, zero, suc, _+_, _-_, _/_, _%_, _^_, _≤_, _<_, min, max}
-use native.Mathlib.Omega.{arith}
-use native.Mathlib.Nat.{pow-suc, div-one}
-use native.Mathlib.Numerals.{add-one}
-use lib.Bits.{bitAnd, bitOr, and-step, and-shr, and-le-l, or-step, or-shr}
-use lib.Count.{ones, ones-step}
-use lib.Pow.{shr-shr, pow-pos, field, mod-mod-pow}
-use Rattle·std.proofs.shelf.Bits.{div-below}
-use Rattle·std.proofs.shelf.Tests.{cases-lt, cases-eq}
-use Rattle·hitting·specs.Masks.{bit, Within}
-use Rattle·hitting·proofs.Halves.{cases-digit, within-from}
+use Rattle.std.proofs.Common.{◌≡◌, ℕ, zero, suc, ◌+◌, ◌-◌, ◌/◌, ◌%◌, ◌^◌, ◌<◌, ◌≤◌, min, max, sym, refl, ap, ◌∙◌, inl, inr, pow-suc, div-one, add-one, arith, pow_pos, shr-shr}
+use lib.Bits.{bit_and, bit_or, and_step, and_shr, and_le_l, or_step, or_shr}
+use lib.Count.{ones, ones_step}
+use lib.Pow.{field, mod-mod-pow}
+use Rattle.std.proofs.lemmas.Nat.{div_below}
+use Rattle.std.proofs.lemmas.Bool.{cases_lt, cases_eq}
+use Rattle.hitting.specs.Masks.{bit, Within}
+use Rattle.hitting.proofs.Halves.{cases-digit, within-from}
 
-pub bit-is : (x b : ℕ) → bit x b ≡ x / 2 ^ b % 2
+pub bit_is : (x b : ℕ) → bit x b ≡ x / 2 ^ b % 2
 unfolding bit
-bit-is x b = refl
+bit_is x b = refl
 
 pub bit-none : (x : ℕ) → bit x 0 ≡ x % 2
 unfolding bit
@@ -26,51 +21,51 @@ unfolding bit
 bit-more x b = let e : 1 + b ≡ suc b = omega arith in sym (ap (λ n. n % 2) (shr-shr x 1 b ∙ ap (λ n. x / 2 ^ n) e))
 
 pub bit-lt : (x b : ℕ) → bit x b < 2
-bit-lt x b = let e = bit-is x b in omega arith
+bit-lt x b = let e = bit_is x b in omega arith
 
-pub half-high : (n x : ℕ) → x < 2 ^ suc n → x / 2 ^ n < 2
-half-high n x h = div-below x (2 ^ n) 2 (pow-pos n) (let p = pow-suc 2 n in omega arith)
+pub half_high : (n x : ℕ) → x < 2 ^ suc n → x / 2 ^ n < 2
+half_high n x h = div_below x (2 ^ n) 2 (pow_pos n) (let p = pow-suc 2 n in omega arith)
 
 pub some-bit : (x b : ℕ) → bit x b ≡ 1 → 0 < x
 some-bit x zero e = let a = bit-none x in omega arith
 some-bit x (suc b) e = let i = some-bit (x / 2) b (sym (bit-more x b) ∙ e) in omega arith
 
 -- no bit from n on
-pub bit-past : (n x b : ℕ) → x < 2 ^ n → n ≤ b → bit x b ≡ 0
-bit-past zero x zero h l = let e = bit-none x in omega arith
-bit-past zero x (suc b) h l = let e = bit-more x b in let i = bit-past zero (x / 2) b (omega arith) (omega arith) in omega arith
-bit-past (suc n) x zero h l = absurd (omega arith)
-bit-past (suc n) x (suc b) h l =
+pub bit_past : (n x b : ℕ) → x < 2 ^ n → n ≤ b → bit x b ≡ 0
+bit_past zero x zero h l = let e = bit-none x in omega arith
+bit_past zero x (suc b) h l = let e = bit-more x b in let i = bit_past zero (x / 2) b (omega arith) (omega arith) in omega arith
+bit_past (suc n) x zero h l = absurd (omega arith)
+bit_past (suc n) x (suc b) h l =
     let p = pow-suc 2 n in
     let e = bit-more x b in
-    let i = bit-past n (x / 2) b (omega arith) (omega arith) in
+    let i = bit_past n (x / 2) b (omega arith) (omega arith) in
     omega arith
 
 -- two sets of n bits with the same bits are the same
-pub same-bits : (n x y : ℕ) → x < 2 ^ n → y < 2 ^ n → ((b : ℕ) → b < n → bit x b ≡ bit y b) → x ≡ y
-same-bits zero x y h k e = omega arith
-same-bits (suc n) x y h k e =
+pub same_bits : (n x y : ℕ) → x < 2 ^ n → y < 2 ^ n → ((b : ℕ) → b < n → bit x b ≡ bit y b) → x ≡ y
+same_bits zero x y h k e = omega arith
+same_bits (suc n) x y h k e =
     let p = pow-suc 2 n in
     let d : x % 2 ≡ y % 2 = sym (bit-none x) ∙ e 0 (omega arith) ∙ bit-none y in
-    let i = same-bits n (x / 2) (y / 2) (omega arith) (omega arith) (λ b l. sym (bit-more x b) ∙ e (suc b) (omega arith) ∙ bit-more y b) in
+    let i = same_bits n (x / 2) (y / 2) (omega arith) (omega arith) (λ b l. sym (bit-more x b) ∙ e (suc b) (omega arith) ∙ bit-more y b) in
     omega arith
 
-pub bit-and : (x y b : ℕ) → bit (bitAnd x y) b ≡ min (bit x b) (bit y b)
+pub bit-and : (x y b : ℕ) → bit (bit_and x y) b ≡ min (bit x b) (bit y b)
 bit-and x y b =
-    let a = bit-is x b in
-    let c = bit-is y b in
-    let e = bit-is (bitAnd x y) b in
-    let q = and-shr x y b in
-    let s = and-step (x / 2 ^ b) (y / 2 ^ b) in
+    let a = bit_is x b in
+    let c = bit_is y b in
+    let e = bit_is (bit_and x y) b in
+    let q = and_shr x y b in
+    let s = and_step (x / 2 ^ b) (y / 2 ^ b) in
     omega arith
 
-pub bit-or : (x y b : ℕ) → bit (bitOr x y) b ≡ max (bit x b) (bit y b)
+pub bit-or : (x y b : ℕ) → bit (bit_or x y) b ≡ max (bit x b) (bit y b)
 bit-or x y b =
-    let a = bit-is x b in
-    let c = bit-is y b in
-    let e = bit-is (bitOr x y) b in
-    let q = or-shr x y b in
-    let s = or-step (x / 2 ^ b) (y / 2 ^ b) in
+    let a = bit_is x b in
+    let c = bit_is y b in
+    let e = bit_is (bit_or x y) b in
+    let q = or_shr x y b in
+    let s = or_step (x / 2 ^ b) (y / 2 ^ b) in
     omega arith
 
 pub within-bit : (x u b : ℕ) → Within x u → bit x b ≡ 1 → bit u b ≡ 1
@@ -96,22 +91,22 @@ above-none : (x y : ℕ) → x / 2 ≡ y / 2 → (c : ℕ) → 0 < c → bit x c
 above-none x y e zero k = absurd (omega arith)
 above-none x y e (suc c) k = bit-more x c ∙ ap (λ m. bit m c) e ∙ sym (bit-more y c)
 
-above-more : (x y b : ℕ) → ((c : ℕ) → b < c → bit (x / 2) c ≡ bit (y / 2) c) → (c : ℕ) → suc b < c → bit x c ≡ bit y c
-above-more x y b s zero k = absurd (omega arith)
-above-more x y b s (suc c) k = bit-more x c ∙ s c (omega arith) ∙ sym (bit-more y c)
+above_more : (x y b : ℕ) → ((c : ℕ) → b < c → bit (x / 2) c ≡ bit (y / 2) c) → (c : ℕ) → suc b < c → bit x c ≡ bit y c
+above_more x y b s zero k = absurd (omega arith)
+above_more x y b s (suc c) k = bit-more x c ∙ s c (omega arith) ∙ sym (bit-more y c)
 
-above-half : (x y b : ℕ) → ((c : ℕ) → b < c → bit x c ≡ bit y c) → (c : ℕ) → b < suc c → bit (x / 2) c ≡ bit (y / 2) c
-above-half x y b s c k = sym (bit-more x c) ∙ s (suc c) k ∙ bit-more y c
+above_half : (x y b : ℕ) → ((c : ℕ) → b < c → bit x c ≡ bit y c) → (c : ℕ) → b < suc c → bit (x / 2) c ≡ bit (y / 2) c
+above_half x y b s c k = sym (bit-more x c) ∙ s (suc c) k ∙ bit-more y c
 
 -- of two numbers the greater has the highest bit in which they differ
 pub highest-differs : (n x y : ℕ) → y < 2 ^ n → x < y → (b : ℕ) × (b < n) × (bit y b ≡ 1) × (bit x b ≡ 0) × ((c : ℕ) → b < c → bit x c ≡ bit y c)
 highest-differs zero x y h l = absurd (omega arith)
 highest-differs (suc n) x y h l =
     let p = pow-suc 2 n in
-    elim (cases-lt (x / 2) (y / 2)) [
+    elim (cases_lt (x / 2) (y / 2)) [
       | inl lt ↦
           let (b, i, o, z, s) = highest-differs n (x / 2) (y / 2) (omega arith) lt in
-          (suc b, omega arith, bit-more y b ∙ o, bit-more x b ∙ z, above-more x y b s)
+          (suc b, omega arith, bit-more y b ∙ o, bit-more x b ∙ z, above_more x y b s)
       | inr ge ↦
           let a = bit-none x in
           let d = bit-none y in
@@ -120,31 +115,31 @@ highest-differs (suc n) x y h l =
     ]
 
 pub differs-highest : (n x y b : ℕ) → x < 2 ^ n → y < 2 ^ n → bit y b ≡ 1 → bit x b ≡ 0 → ((c : ℕ) → b < c → bit x c ≡ bit y c) → x < y
-differs-highest zero x y b h k o z s = let e = bit-past 0 y b k (omega arith) in absurd (omega arith)
+differs-highest zero x y b h k o z s = let e = bit_past 0 y b k (omega arith) in absurd (omega arith)
 differs-highest (suc n) x y zero h k o z s =
     let p = pow-suc 2 n in
     let a = bit-none x in
     let d = bit-none y in
-    let e = same-bits n (x / 2) (y / 2) (omega arith) (omega arith) (λ c l. above-half x y 0 s c (omega arith)) in
+    let e = same_bits n (x / 2) (y / 2) (omega arith) (omega arith) (λ c l. above_half x y 0 s c (omega arith)) in
     omega arith
 differs-highest (suc n) x y (suc b) h k o z s =
     let p = pow-suc 2 n in
     let i = differs-highest n (x / 2) (y / 2) b (omega arith) (omega arith) (sym (bit-more y b) ∙ o) (sym (bit-more x b) ∙ z)
-    (λ c l. above-half x y (suc b) s c (omega arith)) in
+    (λ c l. above_half x y (suc b) s c (omega arith)) in
     omega arith
 
 -- two sets meet if they share a bit
-pub shared-bit : (n x y : ℕ) → x < 2 ^ n → 0 < bitAnd x y → (b : ℕ) × (b < n) × (bit x b ≡ 1) × (bit y b ≡ 1)
+pub shared-bit : (n x y : ℕ) → x < 2 ^ n → 0 < bit_and x y → (b : ℕ) × (b < n) × (bit x b ≡ 1) × (bit y b ≡ 1)
 shared-bit n x y h m =
-    let l = and-le-l x y in
-    let (b, i, o, z, s) = highest-differs n 0 (bitAnd x y) (omega arith) m in
+    let l = and_le_l x y in
+    let (b, i, o, z, s) = highest-differs n 0 (bit_and x y) (omega arith) m in
     let a = bit-and x y b in
     let p = bit-lt x b in
     let q = bit-lt y b in
     (b, i, omega arith, omega arith)
 
-pub bit-shared : (x y b : ℕ) → bit x b ≡ 1 → bit y b ≡ 1 → 0 < bitAnd x y
-bit-shared x y b e f = some-bit (bitAnd x y) b (let a = bit-and x y b in omega arith)
+pub bit-shared : (x y b : ℕ) → bit x b ≡ 1 → bit y b ≡ 1 → 0 < bit_and x y
+bit-shared x y b e f = some-bit (bit_and x y) b (let a = bit-and x y b in omega arith)
 
 -- one bit by itself
 pub bit-one : (b : ℕ) → bit (2 ^ b) b ≡ 1
@@ -156,48 +151,48 @@ bit-one (suc b) =
 
 pub bit-other : (b c : ℕ) → (c ≡ b → ⊥) → bit (2 ^ b) c ≡ 0
 bit-other zero zero n = absurd (n refl)
-bit-other zero (suc c) n = bit-past 1 1 (suc c) (omega arith) (omega arith)
+bit-other zero (suc c) n = bit_past 1 1 (suc c) (omega arith) (omega arith)
 bit-other (suc b) zero n = let p = pow-suc 2 b in let a = bit-none (2 ^ suc b) in omega arith
 bit-other (suc b) (suc c) n =
     let p = pow-suc 2 b in
     let h : 2 ^ suc b / 2 ≡ 2 ^ b = omega arith in
     bit-more (2 ^ suc b) c ∙ ap (λ m. bit m c) h ∙ bit-other b c (λ e. n (ap suc e))
 
-pub has-bit : (n x b : ℕ) → x < 2 ^ n → 0 < bitAnd x (2 ^ b) → bit x b ≡ 1
+pub has-bit : (n x b : ℕ) → x < 2 ^ n → 0 < bit_and x (2 ^ b) → bit x b ≡ 1
 has-bit n x b h m =
     let (c, i, o, one) = shared-bit n x (2 ^ b) h m in
-    elim (cases-eq c b) [
+    elim (cases_eq c b) [
       | inl e ↦ ap (bit x) (sym e) ∙ o
       | inr ne ↦ let z = bit-other b c ne in absurd (omega arith)
     ]
 
-pub bit-has : (x b : ℕ) → bit x b ≡ 1 → 0 < bitAnd x (2 ^ b)
+pub bit-has : (x b : ℕ) → bit x b ≡ 1 → 0 < bit_and x (2 ^ b)
 bit-has x b o = bit-shared x (2 ^ b) b o (bit-one b)
 
 -- x without one of its bits
 pub without-bit : (x b : ℕ) → bit x b ≡ 1 → (2 ^ b ≤ x) × (ones x ≡ suc (ones (x - 2 ^ b)))
 without-bit x zero o =
     let a = bit-none x in
-    let s = ones-step x in
-    let t = ones-step (x - 1) in
+    let s = ones_step x in
+    let t = ones_step (x - 1) in
     let e : (x - 1) / 2 ≡ x / 2 = omega arith in
     let g = ap ones e in
     (omega arith, omega arith)
 without-bit x (suc b) o =
     let p = pow-suc 2 b in
     let (l, i) = without-bit (x / 2) b (sym (bit-more x b) ∙ o) in
-    let s = ones-step x in
-    let t = ones-step (x - 2 ^ suc b) in
+    let s = ones_step x in
+    let t = ones_step (x - 2 ^ suc b) in
     let e : (x - 2 ^ suc b) / 2 ≡ x / 2 - 2 ^ b = omega arith in
     let g = ap ones e in
     (omega arith, omega arith)
 
-pub without-gone : (x b : ℕ) → bit x b ≡ 1 → bit (x - 2 ^ b) b ≡ 0
-without-gone x zero o = let a = bit-none x in let c = bit-none (x - 1) in omega arith
-without-gone x (suc b) o =
+pub without_gone : (x b : ℕ) → bit x b ≡ 1 → bit (x - 2 ^ b) b ≡ 0
+without_gone x zero o = let a = bit-none x in let c = bit-none (x - 1) in omega arith
+without_gone x (suc b) o =
     let p = pow-suc 2 b in
     let e : (x - 2 ^ suc b) / 2 ≡ x / 2 - 2 ^ b = omega arith in
-    bit-more (x - 2 ^ suc b) b ∙ ap (λ n. bit n b) e ∙ without-gone (x / 2) b (sym (bit-more x b) ∙ o)
+    bit-more (x - 2 ^ suc b) b ∙ ap (λ n. bit n b) e ∙ without_gone (x / 2) b (sym (bit-more x b) ∙ o)
 
 pub without-kept : (x b c : ℕ) → bit x b ≡ 1 → (c ≡ b → ⊥) → bit (x - 2 ^ b) c ≡ bit x c
 without-kept x zero zero o n = absurd (n refl)
@@ -226,8 +221,8 @@ bit-low (suc n) x (suc b) l =
     let h : x % 2 ^ suc n / 2 ≡ x / 2 % 2 ^ n = ap (λ k. x % 2 ^ k / 2) (sym (add-one n)) ∙ field x n 1 in
     bit-more (x % 2 ^ suc n) b ∙ ap (λ m. bit m b) h ∙ bit-low n (x / 2) b (omega arith) ∙ sym (bit-more x b)
 
-pub bit-high : (n x : ℕ) → x < 2 ^ suc n → bit x n ≡ x / 2 ^ n
-bit-high n x h =
-    let q : x / 2 ^ n < 2 = half-high n x h in
-    let e = bit-is x n in
+pub bit_high : (n x : ℕ) → x < 2 ^ suc n → bit x n ≡ x / 2 ^ n
+bit_high n x h =
+    let q : x / 2 ^ n < 2 = half_high n x h in
+    let e = bit_is x n in
     omega arith

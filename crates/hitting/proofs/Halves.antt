@@ -1,13 +1,10 @@
 -- Sets of bits by halves: the lowest bit, and the rest, which is the number halved. Each law here is one step of that
 -- kind, and so is each induction above.
-use mathlib.Core.Path.{_≡_, refl, sym, ap}
-use mathlib.Core.Logic.{_⊎_, inl, inr}
-use Prim.Native.Nat.{ℕ, zero, suc, _/_, _%_, _≤_}
-use native.Mathlib.Omega.{arith}
-use lib.Arith.{bin-ind}
-use lib.Bits.{bitAnd, and-step, and-le-r, and-comm}
-use lib.Count.{ones, ones-step}
-use Rattle·hitting·specs.Masks.{Within}
+use Rattle.std.proofs.Common.{◌≡◌, ℕ, zero, suc, ◌/◌, ◌%◌, ◌≤◌, ◌⊎◌, sym, refl, ap, inl, inr, arith}
+use lib.Arith.{bin_ind}
+use lib.Bits.{bit_and, and_step, and_le_r, and_comm}
+use lib.Count.{ones, ones_step}
+use Rattle.hitting.specs.Masks.{Within}
 
 pub cases-digit : (n : ℕ) → (n % 2 ≡ 0) ⊎ (n % 2 ≡ 1)
 cases-digit n = go (n % 2) refl
@@ -17,53 +14,53 @@ cases-digit n = go (n % 2) refl
     go (suc zero) e = inr e
     go (suc (suc d)) e = absurd (omega arith)
 
-pub ones-none : ones 0 ≡ 0
+pub ones_none : ones 0 ≡ 0
 unfolding ones
-ones-none = refl
+ones_none = refl
 
 pub ones-zero : (x : ℕ) → ones x ≡ 0 → x ≡ 0
 ones-zero =
-    bin-ind (λ x. ones x ≡ 0 → x ≡ 0) (λ e. refl)
-    (λ x ih e. let a = ones-step x in let i = ih (omega arith) in omega arith)
+    bin_ind (λ x. ones x ≡ 0 → x ≡ 0) (λ e. refl)
+    (λ x ih e. let a = ones_step x in let i = ih (omega arith) in omega arith)
 
 pub within-half : (x u : ℕ) → Within x u → Within (x / 2) (u / 2)
-within-half x u e = let s = and-step x u in omega arith
+within-half x u e = let s = and_step x u in omega arith
 
 pub within-digit : (x u : ℕ) → Within x u → x % 2 ≤ u % 2
-within-digit x u e = let s = and-step x u in omega arith
+within-digit x u e = let s = and_step x u in omega arith
 
 pub within-from : (x u : ℕ) → Within (x / 2) (u / 2) → x % 2 ≤ u % 2 → Within x u
-within-from x u e d = let s = and-step x u in omega arith
+within-from x u e d = let s = and_step x u in omega arith
 
 pub within-le : (x u : ℕ) → Within x u → x ≤ u
-within-le x u e = let h = and-le-r x u in omega arith
+within-le x u e = let h = and_le_r x u in omega arith
 
 pub within-trans : (x y z : ℕ) → Within x y → Within y z → Within x z
 within-trans =
-    bin-ind (λ x. (y z : ℕ) → Within x y → Within y z → Within x z) (λ y z a b. refl)
+    bin_ind (λ x. (y z : ℕ) → Within x y → Within y z → Within x z) (λ y z a b. refl)
     (λ x ih y z a b.
     let p = within-digit x y a in
     let q = within-digit y z b in
     within-from x z (ih (y / 2) (z / 2) (within-half x y a) (within-half y z b)) (omega arith))
 
-pub and-within-l : (x y : ℕ) → Within (bitAnd x y) x
+pub and-within-l : (x y : ℕ) → Within (bit_and x y) x
 and-within-l =
-    bin-ind (λ x. (y : ℕ) → Within (bitAnd x y) x) (λ y. refl)
+    bin_ind (λ x. (y : ℕ) → Within (bit_and x y) x) (λ y. refl)
     (λ x ih y.
-    let s = and-step x y in
-    let h : bitAnd x y / 2 ≡ bitAnd (x / 2) (y / 2) = omega arith in
-    within-from (bitAnd x y) x (rw h (ih (y / 2))) (omega arith))
+    let s = and_step x y in
+    let h : bit_and x y / 2 ≡ bit_and (x / 2) (y / 2) = omega arith in
+    within-from (bit_and x y) x (rw h (ih (y / 2))) (omega arith))
 
-pub and-within-r : (x y : ℕ) → Within (bitAnd x y) y
-and-within-r x y = rw (and-comm x y) (and-within-l y x)
+pub and-within-r : (x y : ℕ) → Within (bit_and x y) y
+and-within-r x y = rw (and_comm x y) (and-within-l y x)
 
 -- a part has no more bits than the whole
 pub within-ones : (x u : ℕ) → Within x u → ones x ≤ ones u
 within-ones =
-    bin-ind (λ x. (u : ℕ) → Within x u → ones x ≤ ones u) (λ u e. let z = ones-none in omega arith)
+    bin_ind (λ x. (u : ℕ) → Within x u → ones x ≤ ones u) (λ u e. let z = ones_none in omega arith)
     (λ x ih u e.
-    let a = ones-step x in
-    let b = ones-step u in
+    let a = ones_step x in
+    let b = ones_step u in
     let d = within-digit x u e in
     let i = ih (u / 2) (within-half x u e) in
     omega arith)

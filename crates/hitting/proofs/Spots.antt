@@ -1,23 +1,17 @@
 -- Sets of bits and lists of spots are one another, and their orders agree. Each induction goes by the highest bit,
 -- which is the first spot: of a number with n bits it is the spot s, where n + s is 32.
-use mathlib.Core.Path.{_≡_, refl, sym, ap, _∙_}
-use mathlib.Core.Logic.{_⊎_, inl, inr}
-use mathlib.Core.List.{List, [], _∷_}
-use Prim.Native.Nat.{ℕ, zero, suc, _+_, _*_, _-_, _/_, _%_, _^_, _≤_, _<_}
-use native.Mathlib.Omega.{arith}
-use native.Mathlib.Nat.{pow-suc}
-use lib.ListN.{length}
-use lib.Count.{ones, ones-cat}
-use lib.Pow.{split, high, low, pow-pos, pow-mono}
-use Rattle·std.proofs.shelf.Bits.{mod-below}
-use Rattle·std.proofs.shelf.Tests.{cases-eq, cases-order}
-use Rattle·hitting·specs.Masks.{bit}
-use Rattle·hitting·specs.Spots.{mask-of, with-spot, spots, Ascends, In, Before}
-use Rattle·hitting·proofs.Halves.{ones-none}
-use Rattle·hitting·proofs.Bits.{half-high, bit-low, bit-high}
+use Rattle.std.proofs.Common.{◌≡◌, ℕ, zero, suc, ◌+◌, ◌-◌, ◌*◌, ◌/◌, ◌%◌, ◌^◌, ◌<◌, ◌≤◌, ◌⊎◌, List, [], ◌∷◌, length, sym, refl, ap, ◌∙◌, inl, inr, pow-suc, arith, pow_pos, pow_mono}
+use lib.Count.{ones, ones_cat}
+use lib.Pow.{split, high, low}
+use Rattle.std.proofs.lemmas.Nat.{mod_below}
+use Rattle.std.proofs.lemmas.Bool.{cases_eq, cases_order}
+use Rattle.hitting.specs.Masks.{bit}
+use Rattle.hitting.specs.Spots.{mask-of, with-spot, spots, Ascends, In, Before}
+use Rattle.hitting.proofs.Halves.{ones_none}
+use Rattle.hitting.proofs.Bits.{half_high, bit-low, bit_high}
 
 low-lt : (n x : ℕ) → x % 2 ^ n < 2 ^ n
-low-lt n x = mod-below x (2 ^ n) (pow-pos n)
+low-lt n x = mod_below x (2 ^ n) (pow_pos n)
 
 -- the set of the spots of a set
 mask-with : (d s : ℕ) (ss : List ℕ) → d < 2 → mask-of (with-spot d s ss) ≡ d * 2 ^ (31 - s) + mask-of ss
@@ -30,7 +24,7 @@ unfolding spots
 mask-spots zero s x e h = omega arith
 mask-spots (suc n) s x e h =
     let i : 31 - s ≡ n = omega arith in
-    mask-with (x / 2 ^ n) s (spots n (suc s) (x % 2 ^ n)) (half-high n x h)
+    mask-with (x / 2 ^ n) s (spots n (suc s) (x % 2 ^ n)) (half_high n x h)
     ∙ ap (λ k. x / 2 ^ n * 2 ^ k + mask-of (spots n (suc s) (x % 2 ^ n))) i
     ∙ ap (λ m. x / 2 ^ n * 2 ^ n + m) (mask-spots n (suc s) (x % 2 ^ n) (omega arith) (low-lt n x))
     ∙ split x n
@@ -51,12 +45,12 @@ spots-ascend (suc n) s x e =
     ascends-with (x / 2 ^ n) s (spots n (suc s) (x % 2 ^ n)) (omega arith) (spots-ascend n (suc s) (x % 2 ^ n) (omega arith))
 
 -- the spots of the set of spots
-pub mask-lt : (n s : ℕ) (ss : List ℕ) → n + s ≡ 32 → Ascends s ss → mask-of ss < 2 ^ n
-mask-lt n s [] e a = pow-pos n
-mask-lt n s (t ∷ ts) e (a, b, c) =
-    let i = mask-lt (31 - t) (suc t) ts (omega arith) c in
+pub mask_lt : (n s : ℕ) (ss : List ℕ) → n + s ≡ 32 → Ascends s ss → mask-of ss < 2 ^ n
+mask_lt n s [] e a = pow_pos n
+mask_lt n s (t ∷ ts) e (a, b, c) =
+    let i = mask_lt (31 - t) (suc t) ts (omega arith) c in
     let p = pow-suc 2 (31 - t) in
-    let m = pow-mono {i = suc (31 - t)} {j = n} (omega arith) in
+    let m = pow_mono {i = suc (31 - t)} {j = n} (omega arith) in
     omega arith
 
 spots-top : (n s d m : ℕ) → m < 2 ^ n → spots (suc n) s (d * 2 ^ n + m) ≡ with-spot d s (spots n (suc s) m)
@@ -75,18 +69,18 @@ pub spots-mask : (n s : ℕ) (ss : List ℕ) → n + s ≡ 32 → Ascends s ss �
 unfolding spots
 spots-mask zero s [] e a = refl
 spots-mask zero s (t ∷ ts) e (a, b, c) = absurd (omega arith)
-spots-mask (suc n) s [] e a = spots-low n s 0 (pow-pos n) ∙ spots-mask n (suc s) [] (omega arith) tt
+spots-mask (suc n) s [] e a = spots-low n s 0 (pow_pos n) ∙ spots-mask n (suc s) [] (omega arith) tt
 spots-mask (suc n) s (t ∷ ts) e (a, b, c) =
-    elim (cases-eq t s) [
+    elim (cases_eq t s) [
       | inl same ↦
           let i : 31 - t ≡ n = omega arith in
           let d : Ascends (suc s) ts = ascends-from (suc s) (suc t) ts (omega arith) c in
           ap (λ k. spots (suc n) s (2 ^ k + mask-of ts)) i
-          ∙ spots-high n s (mask-of ts) (mask-lt n (suc s) ts (omega arith) d)
+          ∙ spots-high n s (mask-of ts) (mask_lt n (suc s) ts (omega arith) d)
           ∙ ap (λ l. s ∷ l) (spots-mask n (suc s) ts (omega arith) d)
           ∙ ap (λ r. r ∷ ts) (sym same)
       | inr other ↦
-          spots-low n s (mask-of (t ∷ ts)) (mask-lt n (suc s) (t ∷ ts) (omega arith) (omega arith, b, c))
+          spots-low n s (mask-of (t ∷ ts)) (mask_lt n (suc s) (t ∷ ts) (omega arith) (omega arith, b, c))
           ∙ spots-mask n (suc s) (t ∷ ts) (omega arith) (omega arith, b, c)
     ]
 
@@ -99,11 +93,11 @@ length-with (suc (suc d)) s ss h = absurd (omega arith)
 
 pub length-spots : (n s x : ℕ) → x < 2 ^ n → length (spots n s x) ≡ ones x
 unfolding spots
-length-spots zero s x h = let z : x ≡ 0 = omega arith in sym (ap ones z ∙ ones-none)
+length-spots zero s x h = let z : x ≡ 0 = omega arith in sym (ap ones z ∙ ones_none)
 length-spots (suc n) s x h =
-    length-with (x / 2 ^ n) s (spots n (suc s) (x % 2 ^ n)) (half-high n x h)
+    length-with (x / 2 ^ n) s (spots n (suc s) (x % 2 ^ n)) (half_high n x h)
     ∙ ap (λ k. ones (x / 2 ^ n) + k) (length-spots n (suc s) (x % 2 ^ n) (low-lt n x))
-    ∙ sym (ones-cat n (x / 2 ^ n) (x % 2 ^ n) (low-lt n x))
+    ∙ sym (ones_cat n (x / 2 ^ n) (x % 2 ^ n) (low-lt n x))
     ∙ ap ones (split x n)
 
 -- a spot stands in the list if its bit is set
@@ -112,22 +106,22 @@ in-with zero s t ss i = inr i
 in-with (suc d) s t ss (inl e) = inl (omega arith, e)
 in-with (suc d) s t ss (inr i) = inr i
 
-with-in : (d s t : ℕ) (ss : List ℕ) → ((0 < d) × (t ≡ s)) ⊎ In t ss → In t (with-spot d s ss)
-with-in zero s t ss (inl (h, e)) = absurd (omega arith)
-with-in zero s t ss (inr i) = i
-with-in (suc d) s t ss (inl (h, e)) = inl e
-with-in (suc d) s t ss (inr i) = inr i
+with_in : (d s t : ℕ) (ss : List ℕ) → ((0 < d) × (t ≡ s)) ⊎ In t ss → In t (with-spot d s ss)
+with_in zero s t ss (inl (h, e)) = absurd (omega arith)
+with_in zero s t ss (inr i) = i
+with_in (suc d) s t ss (inl (h, e)) = inl e
+with_in (suc d) s t ss (inr i) = inr i
 
 pub in-spots : (n s x t : ℕ) → n + s ≡ 32 → x < 2 ^ n → In t (spots n s x) → (s ≤ t) × (t < 32) × (bit x (31 - t) ≡ 1)
 unfolding spots
 in-spots zero s x t e h i = absurd i
 in-spots (suc n) s x t e h i =
-    let q = half-high n x h in
+    let q = half_high n x h in
     elim (in-with (x / 2 ^ n) s t (spots n (suc s) (x % 2 ^ n)) i) [
       | inl here ↦
           let (p, same) = here in
           let b : 31 - t ≡ n = omega arith in
-          let o = bit-high n x h in
+          let o = bit_high n x h in
           (omega arith, omega arith, ap (bit x) b ∙ omega arith)
       | inr more ↦
           let (a, b, o) = in-spots n (suc s) (x % 2 ^ n) t (omega arith) (low-lt n x) more in
@@ -138,11 +132,11 @@ pub spots-in : (n s x t : ℕ) → n + s ≡ 32 → x < 2 ^ n → s ≤ t → t 
 unfolding spots
 spots-in zero s x t e h a b o = absurd (omega arith)
 spots-in (suc n) s x t e h a b o =
-    with-in (x / 2 ^ n) s t (spots n (suc s) (x % 2 ^ n))
-    (elim (cases-eq t s) [
+    with_in (x / 2 ^ n) s t (spots n (suc s) (x % 2 ^ n))
+    (elim (cases_eq t s) [
       | inl same ↦
           let i : 31 - t ≡ n = omega arith in
-          let q = bit-high n x h in
+          let q = bit_high n x h in
           let r = ap (bit x) i in
           inl (omega arith, same)
       | inr other ↦
@@ -173,14 +167,14 @@ pub greater-before : (n s x y : ℕ) → n + s ≡ 32 → x < 2 ^ n → y < 2 ^ 
 unfolding spots
 greater-before zero s x y e h k l g = absurd (omega arith)
 greater-before (suc n) s x y e h k l g =
-    before-with n s (x / 2 ^ n) (y / 2 ^ n) (x % 2 ^ n) (y % 2 ^ n) (omega arith) (half-high n x h) (half-high n y k) (low-lt n x) (low-lt n y) l
+    before-with n s (x / 2 ^ n) (y / 2 ^ n) (x % 2 ^ n) (y % 2 ^ n) (omega arith) (half_high n x h) (half_high n y k) (low-lt n x) (low-lt n y) l
     (let p = split x n in let q = split y n in omega arith)
     (greater-before n (suc s) (x % 2 ^ n) (y % 2 ^ n) (omega arith) (low-lt n x) (low-lt n y))
 
-before-same : (ss : List ℕ) → Before ss ss → ⊥
-before-same [] b = b
-before-same (s ∷ ss) (inl h) = omega arith
-before-same (s ∷ ss) (inr (e, b)) = before-same ss b
+before_same : (ss : List ℕ) → Before ss ss → ⊥
+before_same [] b = b
+before_same (s ∷ ss) (inl h) = omega arith
+before_same (s ∷ ss) (inr (e, b)) = before_same ss b
 
 before-both : (ss ts : List ℕ) → Before ss ts → Before ts ss → ⊥
 before-both [] ts a b = a
@@ -192,8 +186,8 @@ before-both (s ∷ ss) (t ∷ ts) (inr (e, a)) (inr (f, b)) = before-both ss ts 
 
 pub before-greater : (n s x y : ℕ) → n + s ≡ 32 → x < 2 ^ n → y < 2 ^ n → length (spots n s x) ≡ length (spots n s y) → Before (spots n s x) (spots n s y) → y < x
 before-greater n s x y e h k l b =
-    elim (cases-order y x) [
-      | inl same ↦ absurd (before-same (spots n s x) (let f = ap (spots n s) same in rw f at b))
+    elim (cases_order y x) [
+      | inl same ↦ absurd (before_same (spots n s x) (let f = ap (spots n s) same in rw f at b))
       | inr o ↦
           elim o [
             | inl less ↦ less

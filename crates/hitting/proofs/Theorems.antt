@@ -1,14 +1,12 @@
 -- The theorems about sets of bits, each at 32 bits.
-use mathlib.Core.Path.{_≡_, refl, sym, _∙_}
-use native.Mathlib.Omega.{arith}
-use lib.ListN.{length}
-use Rattle·hitting·specs.Spots.{spots, spots-of}
-use Rattle·hitting·specs.Theorems.{Same-bits, Highest-differs, Spots-of-set, Set-of-spots, As-many, Has-spot, Earlier-is-greater, Theorems}
-use Rattle·hitting·proofs.Bits as bits
-use Rattle·hitting·proofs.Spots.{mask-spots, spots-ascend, mask-lt, spots-mask, length-spots, in-spots, spots-in, greater-before, before-greater}
+use Rattle.std.proofs.Common.{◌≡◌, length, sym, refl, ◌∙◌, arith}
+use Rattle.hitting.specs.Spots.{spots, spots-of}
+use Rattle.hitting.specs.Theorems.{Same-bits, Highest-differs, Spots-of-set, Set-of-spots, As-many, Has-spot, Earlier-is-greater, Theorems}
+use Rattle.hitting.proofs.Bits as bits
+use Rattle.hitting.proofs.Spots.{mask-spots, spots-ascend, mask_lt, spots-mask, length-spots, in-spots, spots-in, greater-before, before-greater}
 
-pub same-bits : Same-bits
-same-bits x y = bits.same-bits 32 x y
+pub same_bits : Same-bits
+same_bits x y = bits.same_bits 32 x y
 
 pub highest-differs : Highest-differs
 highest-differs x y h k = (
@@ -22,17 +20,17 @@ spots-of-set x h = (spots-ascend 32 0 x refl, mask-spots 32 0 x refl h)
 
 pub set-of-spots : Set-of-spots
 unfolding spots-of
-set-of-spots ss a = (mask-lt 32 0 ss refl a, spots-mask 32 0 ss refl a)
+set-of-spots ss a = (mask_lt 32 0 ss refl a, spots-mask 32 0 ss refl a)
 
-pub as-many : As-many
+pub as_many : As-many
 unfolding spots-of
-as-many x h = length-spots 32 0 x h
+as_many x h = length-spots 32 0 x h
 
 pub has-spot : Has-spot
 unfolding spots-of
 has-spot x s h = (
   λ i. let (a, b, o) = in-spots 32 0 x s refl h i in (b, o),
-  λ p. spots-in 32 0 x s refl h (omega arith) (p .0) (p .1),
+  λ p. spots-in 32 0 x s refl h (omega arith) p.0 p.1,
 )
 
 pub earlier-is-greater : Earlier-is-greater
@@ -44,11 +42,11 @@ earlier-is-greater x y h k e =
 pub theorems : Theorems
 theorems =
     record {
-      same-bits = same-bits;
+      same_bits = same_bits;
       highest-differs = highest-differs;
       spots-of-set = spots-of-set;
       set-of-spots = set-of-spots;
-      as-many = as-many;
+      as_many = as_many;
       has-spot = has-spot;
       earlier-is-greater = earlier-is-greater;
     }

@@ -1,19 +1,12 @@
 -- What the functions promise.
-use mathlib.Core.Path.{_≡_}
-use mathlib.Core.List.{List}
-use Prim.Native.Nat.{ℕ, suc, _<_, _≤_}
-use lib.ListN.{length, getD}
-use lib.Bits.{bitAnd}
-use lib.Count.{ones}
-use Rattle·std.specs.declared.option.Option.{Option}
-use Rattle·std.specs.declared.option.Option.the-variants.{Some, None}
-use Rattle·hitting·specs.Masks.{Within, Meets, Misses}
+use Rattle.std.specs.Prelude.{◌≡◌, ℕ, suc, ◌<◌, ◌≤◌, List, length, Some, None, Option, bit_and, count_ones, slice_index}
+use Rattle.hitting.specs.Masks.{Within, Meets, Misses}
 
 -- the clause k is the first that x misses; without k it meets all
 pub record First-missed (cs : List ℕ) (x k : ℕ) : Type 0 where
   pub inside : k < length cs
-  pub missed : bitAnd x (getD cs k 0) ≡ 0
-  pub before : (j : ℕ) → j < k → 0 < bitAnd x (getD cs j 0)
+  pub missed : bit_and x (slice_index cs k) ≡ 0
+  pub before : (j : ℕ) → j < k → 0 < bit_and x (slice_index cs j)
 
 abbrev pub Missed-or-met : List ℕ → ℕ → Option ℕ → Type 0
 Missed-or-met cs x (Some k) = First-missed cs x k
@@ -29,33 +22,33 @@ pub record Greatest (u m y : ℕ) : Type 0 where
 pub record Lowered (x y : ℕ) : Type 0 where
   pub below : y < x
   pub within : Within y x
-  pub fewer : ones x ≡ suc (ones y)
-  pub between : (z : ℕ) → y < z → z < x → ones x ≤ ones z
+  pub fewer : count_ones x ≡ suc (count_ones y)
+  pub between : (z : ℕ) → y < z → z < x → count_ones x ≤ count_ones z
 
 -- y is where to go on: whatever lies within u above y, up to x, misses the mark. Without y, all up to x does
 pub record Passed (u mark x y : ℕ) : Type 0 where
   pub below : y < x
   pub within : Within y u
-  pub missed : (z : ℕ) → y < z → z ≤ x → Within z u → bitAnd z mark ≡ 0
+  pub missed : (z : ℕ) → y < z → z ≤ x → Within z u → bit_and z mark ≡ 0
 
 abbrev pub Passed-or-none : ℕ → ℕ → ℕ → Option ℕ → Type 0
 Passed-or-none u mark x (Some y) = Passed u mark x y
-Passed-or-none u mark x None = (z : ℕ) → z ≤ x → Within z u → bitAnd z mark ≡ 0
+Passed-or-none u mark x None = (z : ℕ) → z ≤ x → Within z u → bit_and z mark ≡ 0
 
 -- a set within u with n bits that meets every clause
 pub record Candidate (cs : List ℕ) (u n x : ℕ) : Type 0 where
   pub within : Within x u
-  pub size : ones x ≡ n
+  pub size : count_ones x ≡ n
   pub meets : Meets cs x
 
 -- z is no candidate: if it lies within u and has n bits, it misses a clause
 abbrev pub Fails : List ℕ → ℕ → ℕ → ℕ → Type 0
-Fails cs u n z = Within z u → ones z ≡ n → Misses cs z
+Fails cs u n z = Within z u → count_ones z ≡ n → Misses cs z
 
 -- x misses the mark, which every candidate meets; without a mark x is a candidate
 pub record Unmet (cs : List ℕ) (u n x mark : ℕ) : Type 0 where
-  pub missed : bitAnd x mark ≡ 0
-  pub needed : (z : ℕ) → bitAnd z mark ≡ 0 → Fails cs u n z
+  pub missed : bit_and x mark ≡ 0
+  pub needed : (z : ℕ) → bit_and z mark ≡ 0 → Fails cs u n z
 
 abbrev pub Unmet-or-candidate : List ℕ → ℕ → ℕ → ℕ → Option ℕ → Type 0
 Unmet-or-candidate cs u n x (Some mark) = Unmet cs u n x mark

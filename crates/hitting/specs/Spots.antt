@@ -1,9 +1,6 @@
 -- Sets of bits as lists of spots. The spot s is the bit 31 - s, so that spots in ascending order are bits from the
 -- highest down, and of two sets with equally many the one with the earlier list is the greater number.
-use mathlib.Core.Path.{_≡_}
-use mathlib.Core.Logic.{_⊎_}
-use mathlib.Core.List.{List, [], _∷_}
-use Prim.Native.Nat.{ℕ, zero, suc, _+_, _-_, _/_, _%_, _^_, _≤_, _<_}
+use Rattle.std.specs.Prelude.{◌≡◌, ℕ, zero, suc, ◌+◌, ◌-◌, ◌/◌, ◌%◌, ◌^◌, ◌<◌, ◌≤◌, ◌⊎◌, List, [], ◌∷◌}
 
 -- the set that has these spots
 abbrev pub mask-of : List ℕ → ℕ

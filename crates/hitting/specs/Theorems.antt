@@ -1,12 +1,7 @@
 -- What is proved of sets of bits, as types: one sentence, one theorem.
-use mathlib.Core.Path.{_≡_}
-use mathlib.Core.Logic.{_↔_}
-use mathlib.Core.List.{List}
-use Prim.Native.Nat.{ℕ, _-_, _^_, _<_}
-use lib.ListN.{length}
-use lib.Count.{ones}
-use Rattle·hitting·specs.Masks.{bit}
-use Rattle·hitting·specs.Spots.{mask-of, spots-of, Ascends, In, Before}
+use Rattle.std.specs.Prelude.{◌≡◌, ℕ, ◌-◌, ◌^◌, ◌<◌, ◌↔◌, List, length, count_ones}
+use Rattle.hitting.specs.Masks.{bit}
+use Rattle.hitting.specs.Spots.{mask-of, spots-of, Ascends, In, Before}
 
 -- sets with the same bits are the same
 abbrev pub Same-bits : Type 0
@@ -24,20 +19,20 @@ abbrev pub Set-of-spots : Type 0
 Set-of-spots = (ss : List ℕ) → Ascends 0 ss → (mask-of ss < 2 ^ 32) × (spots-of (mask-of ss) ≡ ss)
 
 abbrev pub As-many : Type 0
-As-many = (x : ℕ) → x < 2 ^ 32 → length (spots-of x) ≡ ones x
+As-many = (x : ℕ) → x < 2 ^ 32 → length (spots-of x) ≡ count_ones x
 
 abbrev pub Has-spot : Type 0
 Has-spot = (x s : ℕ) → x < 2 ^ 32 → In s (spots-of x) ↔ ((s < 32) × (bit x (31 - s) ≡ 1))
 
 -- of sets with equally many bits, the one with the earlier list is the greater number
 abbrev pub Earlier-is-greater : Type 0
-Earlier-is-greater = (x y : ℕ) → x < 2 ^ 32 → y < 2 ^ 32 → ones x ≡ ones y → Before (spots-of x) (spots-of y) ↔ (y < x)
+Earlier-is-greater = (x y : ℕ) → x < 2 ^ 32 → y < 2 ^ 32 → count_ones x ≡ count_ones y → Before (spots-of x) (spots-of y) ↔ (y < x)
 
 pub record Theorems : Type 0 where
-  pub same-bits : Same-bits
+  pub same_bits : Same-bits
   pub highest-differs : Highest-differs
   pub spots-of-set : Spots-of-set
   pub set-of-spots : Set-of-spots
-  pub as-many : As-many
+  pub as_many : As-many
   pub has-spot : Has-spot
   pub earlier-is-greater : Earlier-is-greater

@@ -1,16 +1,14 @@
 // Candidates: the sets within `among` with just so many bits that meet every clause. They are gone through from the
 // numerically greatest down, by jumps over what can be none.
-ghost use mathlib.Core.Path.{_≡_};
-ghost use Prim.Native.Nat.{_<_, _≤_};
-ghost use lib.Bits.{bitAnd};
-ghost use lib.Count.{ones};
-ghost use Rattle·hitting·specs.Masks.{Within};
-ghost use Rattle·hitting·specs.Post.{Greatest, Lowered, Passed-or-none, Unmet-or-candidate, Next-or-none};
+ghost use Rattle.std.specs.Prelude.{◌≡◌, ◌<◌, ◌≤◌, bit_and, count_ones};
+ghost use Rattle.hitting.specs.Masks.{Within};
+ghost use Rattle.hitting.specs.Post.{Greatest, Lowered, Passed-or-none, Unmet-or-candidate, Next-or-none};
+
 use crate::clauses::first_missed;
 
 // The greatest set within `among` up to `from`: below the highest bit of `from` that lies outside, all of `among`.
 fn greatest_within(among: u32, from: u32) -> u32
-    ensures { λ r. ⌜ Greatest among from r ⌝ }
+    ensures { Greatest among from result }
 {
     let inside = from & among;
     if inside == from {
@@ -22,8 +20,8 @@ fn greatest_within(among: u32, from: u32) -> u32
 
 // `x` without its lowest bit: the next set below `x` with fewer bits.
 fn without_lowest(x: u32) -> u32
-    requires { ⌜ 0 < x ⌝ }
-    ensures { λ r. ⌜ Lowered x r ⌝ }
+    requires { 0 < x }
+    ensures { Lowered x result }
 {
     x & (x - 1)
 }
@@ -31,9 +29,9 @@ fn without_lowest(x: u32) -> u32
 // The next set within `among` below `x` that does not agree with `x` from the lowest bit of `mark` up. What agrees
 // there misses `mark` as `x` does.
 fn next_without(among: u32, mark: u32, x: u32) -> Option<u32>
-    requires within { ⌜ Within x among ⌝ }
-    requires missed { ⌜ bitAnd x mark ≡ 0 ⌝ }
-    ensures { λ r. ⌜ Passed-or-none among mark x r ⌝ }
+    requires within { Within x among }
+    requires missed { bit_and x mark ≡ 0 }
+    ensures { Passed-or-none among mark x result }
 {
     if mark == 0 {
         return None;
@@ -49,9 +47,9 @@ fn next_without(among: u32, mark: u32, x: u32) -> Option<u32>
 // A set of bits that `x` misses and every candidate meets; none if `x` is a candidate itself. Where `x` has too few
 // bits it is the rest of `among`: what misses that lies within `x`, and has too few bits as well.
 fn unmet(clauses: &[u32], among: u32, bits: u32, x: u32) -> Option<u32>
-    requires within { ⌜ Within x among ⌝ }
-    requires few { ⌜ ones x ≤ bits ⌝ }
-    ensures { λ r. ⌜ Unmet-or-candidate (now (clauses .entry)) among bits x r ⌝ }
+    requires within { Within x among }
+    requires few { count_ones x ≤ bits }
+    ensures { Unmet-or-candidate clauses.now among bits x result }
 {
     if x.count_ones() < bits {
         return Some(among - x);
@@ -64,7 +62,7 @@ fn unmet(clauses: &[u32], among: u32, bits: u32, x: u32) -> Option<u32>
 
 // The greatest candidate up to `from`. Each turn leaves out at once all sets that fail for the same reason as `x`.
 pub fn next_candidate(clauses: &[u32], among: u32, bits: u32, from: u32) -> Option<u32>
-    ensures { λ r. ⌜ Next-or-none (now (clauses .entry)) among bits from r ⌝ }
+    ensures { Next-or-none clauses.now among bits from result }
 {
     let mut x = greatest_within(among, from);
     'down: loop {
@@ -85,7 +83,6 @@ pub fn next_candidate(clauses: &[u32], among: u32, bits: u32, from: u32) -> Opti
 #[cfg(test)]
 mod tests {
     use super::*;
-    use std::test::*;
 
     // The greatest candidate below `end`, by looking at one set after another.
     fn slowly(clauses: &[u32], among: u32, bits: u32, end: u32) -> Option<u32> {
@@ -98,7 +95,7 @@ mod tests {
     }
 
     #[test]
-    fn jumps_find_what_all_sets_give() -> Result<(), Fail> {
+    fn jumps_find_what_all_sets_give(rt: HostRuntime) {
         let table: [&[u32]; 5] = [
             &[],
             &[0b000011, 0b001100],
@@ -110,14 +107,13 @@ mod tests {
             for among in [0b111111, 0b101101, 0b011011] {
                 for bits in 0..8 {
                     for end in 1..70 {
-                        check_eq(
+                        assert_eq!(rt;
                             next_candidate(clauses, among, bits, end - 1),
-                            slowly(clauses, among, bits, end),
-                        )?;
+                            slowly(clauses, among, bits, end)
+                        );
                     }
                 }
             }
         }
-        Ok(())
     }
 }

@@ -1,16 +1,11 @@
 -- Reading and writing one field of a number by shifts and masks; numbers and their fields, there and back.
-use mathlib.Core.Path.{_≡_, refl, sym, ap, subst, _∙_}
-use mathlib.Core.List.{List, [], _∷_}
-use Prim.Native.Nat.{ℕ, zero, suc, _+_, _*_, _-_, _/_, _%_, _^_, _<_, _≤_}
-use native.Mathlib.Nat.{pow-suc}
-use native.Mathlib.Omega.{arith}
-use lib.Bits.{bitAnd, bitOr}
-use lib.ListN.{getD, set, length}
-use Rattle·std.proofs.shelf.Bits.{pow-pos, pow-add, shr-shr, shr-below, and-mask, or-shifted, one-shl, shl-whole, shr-le, mod-pow-add, mod-below}
-use Rattle·lent·specs.Nibbles.{nibbles, number, All-below}
+use Rattle.std.proofs.Common.{◌≡◌, ℕ, zero, suc, ◌+◌, ◌-◌, ◌*◌, ◌/◌, ◌%◌, ◌^◌, ◌<◌, ◌≤◌, List, [], ◌∷◌, length, get_or, set, sym, refl, ap, ◌∙◌, subst, pow-suc, arith}
+use lib.Bits.{bit_and, bit_or}
+use Rattle.std.proofs.lemmas.Nat.{pow_pos, pow-add, shr-shr, shr_below, and_mask, or_shifted, one_shl, shl_whole, shr_le, mod-pow-add, mod_below}
+use Rattle.lent.specs.Nibbles.{nibbles, number, All-below}
 
 -- the field a of n as a quotient
-pub field : (a k n : ℕ) → a < k → getD (nibbles k n) a 0 ≡ n / 2 ^ (4 * a) % 16
+pub field : (a k n : ℕ) → a < k → get_or (nibbles k n) a 0 ≡ n / 2 ^ (4 * a) % 16
 unfolding nibbles
 field a zero n h = absurd (omega arith)
 field zero (suc k) n h = omega arith
@@ -54,36 +49,36 @@ poked-is (suc a) n v =
     ∙ sym (ap (λ z. (z / 16 * 16 + v) * 2 ^ (4 * suc a) + n % 2 ^ (4 * suc a)) q ∙ ap (λ z. x * z + n % 2 ^ (4 * suc a)) w ∙ ap (λ z. x * (p * 16) + z) m)
 
 -- what the shifts and masks of the code compute, at 32 bits
-pub shifted-in : (a n v : ℕ) → a < 8 → v < 16 → n < 2 ^ 32 → bitOr (bitOr (n / 2 ^ (4 * a) / 16 * 16 % 2 ^ 32) v * 2 ^ (4 * a) % 2 ^ 32) (bitAnd n (1 * 2 ^ (4 * a) % 2 ^ 32 - 1)) ≡ poked a n v
-shifted-in a n v ha hv hn =
+pub shifted_in : (a n v : ℕ) → a < 8 → v < 16 → n < 2 ^ 32 → bit_or (bit_or (n / 2 ^ (4 * a) / 16 * 16 % 2 ^ 32) v * 2 ^ (4 * a) % 2 ^ 32) (bit_and n (1 * 2 ^ (4 * a) % 2 ^ 32 - 1)) ≡ poked a n v
+shifted_in a n v ha hv hn =
     let s = 4 * a in
     let p = 2 ^ s in
     let h = n / p / 16 in
-    let pos = pow-pos s in
+    let pos = pow_pos s in
     -- the high fields fit what is left of 32 bits
     let f1 : 32 ≡ (32 - s) + s = omega arith in
     let f2 : 32 - s ≡ (28 - s) + 4 = omega arith in
     let n1 : n < 2 ^ ((32 - s) + s) = subst (λ z. n < 2 ^ z) f1 hn in
-    let n2 : n / p < 2 ^ ((28 - s) + 4) = subst (λ z. n / p < 2 ^ z) f2 (shr-below n (32 - s) s n1) in
-    let b : h < 2 ^ (28 - s) = shr-below (n / p) (28 - s) 4 n2 in
+    let n2 : n / p < 2 ^ ((28 - s) + 4) = subst (λ z. n / p < 2 ^ z) f2 (shr_below n (32 - s) s n1) in
+    let b : h < 2 ^ (28 - s) = shr_below (n / p) (28 - s) 4 n2 in
     let w : 2 ^ (32 - s) ≡ 2 ^ (28 - s) * 16 = ap (λ z. 2 ^ z) f2 ∙ pow-add 2 (28 - s) 4 in
-    let c = shr-le n s in
+    let c = shr_le n s in
     let e1 : h * 16 % 2 ^ 32 ≡ h * 16 = omega arith in
-    let e2 : bitOr (h * 16) v ≡ h * 16 + v = or-shifted h 4 v hv in
-    let e3 : (h * 16 + v) * p % 2 ^ 32 ≡ (h * 16 + v) * p = shl-whole (h * 16 + v) (32 - s) s 32 (omega arith) (omega arith) in
-    let e4 : bitAnd n (1 * p % 2 ^ 32 - 1) ≡ n % p = ap (λ z. bitAnd n (z - 1)) (one-shl s 32 (omega arith)) ∙ and-mask n s in
-    ap (λ z. bitOr (bitOr z v * p % 2 ^ 32) (bitAnd n (1 * p % 2 ^ 32 - 1))) e1
-    ∙ ap (λ z. bitOr (z * p % 2 ^ 32) (bitAnd n (1 * p % 2 ^ 32 - 1))) e2
-    ∙ ap (λ z. bitOr z (bitAnd n (1 * p % 2 ^ 32 - 1))) e3
-    ∙ ap (λ z. bitOr ((h * 16 + v) * p) z) e4
-    ∙ or-shifted (h * 16 + v) s (n % p) (mod-below n p pos)
+    let e2 : bit_or (h * 16) v ≡ h * 16 + v = or_shifted h 4 v hv in
+    let e3 : (h * 16 + v) * p % 2 ^ 32 ≡ (h * 16 + v) * p = shl_whole (h * 16 + v) (32 - s) s 32 (omega arith) (omega arith) in
+    let e4 : bit_and n (1 * p % 2 ^ 32 - 1) ≡ n % p = ap (λ z. bit_and n (z - 1)) (one_shl s 32 (omega arith)) ∙ and_mask n s in
+    ap (λ z. bit_or (bit_or z v * p % 2 ^ 32) (bit_and n (1 * p % 2 ^ 32 - 1))) e1
+    ∙ ap (λ z. bit_or (z * p % 2 ^ 32) (bit_and n (1 * p % 2 ^ 32 - 1))) e2
+    ∙ ap (λ z. bit_or z (bit_and n (1 * p % 2 ^ 32 - 1))) e3
+    ∙ ap (λ z. bit_or ((h * 16 + v) * p) z) e4
+    ∙ or_shifted (h * 16 + v) s (n % p) (mod_below n p pos)
     ∙ sym (poked-is a n v)
 
-pub read-field : (a k n : ℕ) → a < k → bitAnd (n / 2 ^ (4 * a)) 15 ≡ getD (nibbles k n) a 0
-read-field a k n h = and-mask (n / 2 ^ (4 * a)) 4 ∙ sym (field a k n h)
+pub read-field : (a k n : ℕ) → a < k → bit_and (n / 2 ^ (4 * a)) 15 ≡ get_or (nibbles k n) a 0
+read-field a k n h = and_mask (n / 2 ^ (4 * a)) 4 ∙ sym (field a k n h)
 
 -- each field is below 16
-pub nibble-small : (a k n : ℕ) → getD (nibbles k n) a 0 < 16
+pub nibble-small : (a k n : ℕ) → get_or (nibbles k n) a 0 < 16
 unfolding nibbles
 nibble-small a zero n = omega arith
 nibble-small zero (suc k) n = omega arith
@@ -104,12 +99,12 @@ number-nibbles (suc k) n h =
     omega arith
 
 -- a field written leaves the number below what it was below
-pub poked-below : (a k n v : ℕ) → v < 16 → a < k → n < 16 ^ k → poked a n v < 16 ^ k
-poked-below a zero n v hv h b = absurd (omega arith)
-poked-below zero (suc k) n v hv h b = let e = pow-suc 16 k in omega arith
-poked-below (suc a) (suc k) n v hv h b =
+pub poked_below : (a k n v : ℕ) → v < 16 → a < k → n < 16 ^ k → poked a n v < 16 ^ k
+poked_below a zero n v hv h b = absurd (omega arith)
+poked_below zero (suc k) n v hv h b = let e = pow-suc 16 k in omega arith
+poked_below (suc a) (suc k) n v hv h b =
     let e = pow-suc 16 k in
-    let i = poked-below a k (n / 16) v hv (omega arith) (omega arith) in
+    let i = poked_below a k (n / 16) v hv (omega arith) (omega arith) in
     omega arith
 
 -- what stands above the fields does not matter
@@ -129,18 +124,18 @@ pub nibbles-number : (ds : List ℕ) → All-below 16 ds → nibbles (length ds)
 unfolding nibbles number
 nibbles-number [] h = refl
 nibbles-number (d ∷ ds) h =
-    let b = h .0 in
+    let b = h.0 in
     let e : (d + 16 * number ds) % 16 ≡ d = omega arith in
     let f : (d + 16 * number ds) / 16 ≡ number ds = omega arith in
-    ap (λ z. z ∷ nibbles (length ds) ((d + 16 * number ds) / 16)) e ∙ ap (λ z. d ∷ nibbles (length ds) z) f ∙ ap (λ z. d ∷ z) (nibbles-number ds (h .1))
+    ap (λ z. z ∷ nibbles (length ds) ((d + 16 * number ds) / 16)) e ∙ ap (λ z. d ∷ nibbles (length ds) z) f ∙ ap (λ z. d ∷ z) (nibbles-number ds h.1)
 
 pub number-below : (ds : List ℕ) → All-below 16 ds → number ds < 16 ^ length ds
 unfolding number
 number-below [] h = omega arith
 number-below (d ∷ ds) h =
-    let b = h .0 in
+    let b = h.0 in
     let e = pow-suc 16 (length ds) in
-    let i = number-below ds (h .1) in
+    let i = number-below ds h.1 in
     omega arith
 
 pub nibbles-below : (k n : ℕ) → All-below 16 (nibbles k n)

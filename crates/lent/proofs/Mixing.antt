@@ -1,30 +1,25 @@
 -- The hash, one word after the other.
-use mathlib.Core.Path.{_≡_, refl, sym, ap, _∙_}
-use mathlib.Core.List.{List, [], _∷_}
-use Prim.Native.Nat.{ℕ, _+_, _*_, _-_, _/_, _^_, _<_, _≤_}
-use native.Mathlib.Numerals.{add-one}
-use native.Mathlib.Omega.{arith}
-use lib.ListN.{length, drop, getD}
-use Rattle·std.proofs.shelf.Lists.{drop-more, at-drop-all}
-use Rattle·std.proofs.shelf.Bits.{shr-below}
-use Rattle·lent·specs.Hash.{stir, hash-from, hash-of}
+use Rattle.std.proofs.Common.{◌≡◌, ℕ, ◌+◌, ◌-◌, ◌*◌, ◌/◌, ◌^◌, ◌<◌, ◌≤◌, List, [], ◌∷◌, length, get_or, drop, sym, refl, ap, ◌∙◌, add-one, arith}
+use Rattle.std.proofs.lemmas.List.{drop_more, at_drop_all}
+use Rattle.std.proofs.lemmas.Nat.{shr_below}
+use Rattle.lent.specs.Hash.{stir, hash-from, hash-of}
 
 pub hash-none : (ws : List ℕ) → hash-from 0 0 (drop 0 ws) ≡ hash-of ws
 unfolding hash-of
 hash-none ws = refl
 
-pub hash-more : (ws : List ℕ) (h h′ i r : ℕ) → i < length ws → h′ ≡ stir h i (getD ws i 0) → hash-from i h (drop i ws) ≡ r → hash-from (i + 1) h′ (drop (i + 1) ws) ≡ r
-hash-more ws h h′ i r l e before =
+pub hash-more : (ws : List ℕ) (h h' i r : ℕ) → i < length ws → h' ≡ stir h i (get_or ws i 0) → hash-from i h (drop i ws) ≡ r → hash-from (i + 1) h' (drop (i + 1) ws) ≡ r
+hash-more ws h h' i r l e before =
     ap (λ x. hash-from (i + 1) x (drop (i + 1) ws)) e
-    ∙ ap (λ n. hash-from n (stir h i (getD ws i 0)) (drop (i + 1) ws)) (add-one i)
-    ∙ sym (ap (hash-from i h) (drop-more ws i 0 l))
+    ∙ ap (λ n. hash-from n (stir h i (get_or ws i 0)) (drop (i + 1) ws)) (add-one i)
+    ∙ sym (ap (hash-from i h) (drop_more ws i 0 l))
     ∙ before
 
 pub hash-all : (ws : List ℕ) (h i r : ℕ) → length ws ≤ i → hash-from i h (drop i ws) ≡ r → h ≡ r
-hash-all ws h i r l before = sym (at-drop-all (hash-from i h) ws i l) ∙ before
+hash-all ws h i r l before = sym (at_drop_all (hash-from i h) ws i l) ∙ before
 
 -- the highest b bits of a hash
 pub high-below : (h b : ℕ) → h < 2 ^ 64 → b ≤ 64 → h / 2 ^ (64 - b) < 2 ^ b
 high-below h b l m =
     let e : b + (64 - b) ≡ 64 = omega arith in
-    shr-below h b (64 - b) (rw e l)
+    shr_below h b (64 - b) (rw e l)

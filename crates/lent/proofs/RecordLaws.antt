@@ -1,17 +1,11 @@
 -- Laws of records: what a record is made of, and what leaves it unchanged.
-use mathlib.Core.Path.{_≡_, refl, sym, ap, _∙_}
-use mathlib.Core.List.{List}
-use mathlib.Core.Logic.{inl, inr}
-use Prim.Native.Nat.{ℕ, _+_, _*_, _-_, _<_, _≤_}
-use native.Mathlib.Nat.{add-mul, one-mul}
-use native.Mathlib.Omega.{arith}
-use lib.ListN.{length, take, drop, getD}
-use borrow.Rule.Slice.PartMut.{putMid}
-use Rattle·std.proofs.shelf.Lists.{length-take-le, length-drop, drop-take, take-take, getD-take, getD-drop}
-use Rattle·std.proofs.shelf.Parts.{between-putMid}
-use Rattle·std.proofs.shelf.Bits.{mul-le}
-use Rattle·std.proofs.shelf.Tests.{cases-eq}
-use Rattle·lent·specs.Records.{rec, Apart}
+use Rattle.std.proofs.Common.{◌≡◌, ℕ, ◌+◌, ◌-◌, ◌*◌, ◌<◌, ◌≤◌, List, length, get_or, take, drop, sym, refl, ap, ◌∙◌, inl, inr, add-mul, one-mul, arith}
+use borrow.Rule.Slice.PartMut.{put_mid}
+use Rattle.std.proofs.lemmas.List.{length-take-le, length-drop, drop-take, take-take, get_or-take, get_or-drop}
+use Rattle.std.proofs.lemmas.Slice.{between-put_mid}
+use Rattle.std.proofs.lemmas.Nat.{mul-le}
+use Rattle.std.proofs.lemmas.Bool.{cases_eq}
+use Rattle.lent.specs.Records.{rec, Apart}
 
 pub rec-is : (q : List ℕ) (w i : ℕ) → rec q w i ≡ take w (drop (i * w) q)
 unfolding rec
@@ -29,9 +23,9 @@ pub length-rec : (q : List ℕ) (w i : ℕ) → i * w + w ≤ length q → lengt
 unfolding rec
 length-rec q w i h = length-take-le w (drop (i * w) q) (omega (arith, length-drop (i * w) q))
 
-pub getD-rec : (q : List ℕ) (w i k d : ℕ) → k < w → getD (rec q w i) k d ≡ getD q (i * w + k) d
+pub getD-rec : (q : List ℕ) (w i k d : ℕ) → k < w → get_or (rec q w i) k d ≡ get_or q (i * w + k) d
 unfolding rec
-getD-rec q w i k d h = getD-take w (drop (i * w) q) k d h ∙ getD-drop (i * w) q k d
+getD-rec q w i k d h = get_or-take w (drop (i * w) q) k d h ∙ get_or-drop (i * w) q k d
 
 -- record i of the front of a row
 pub rec-take : (q : List ℕ) (w m i : ℕ) → i * w + w ≤ m → rec (take m q) w i ≡ rec q w i
@@ -40,10 +34,10 @@ rec-take q w m i h =
     sym (drop-take (i * w) w (take m q)) ∙ ap (drop (i * w)) (take-take (i * w + w) m q h) ∙ drop-take (i * w) w q
 
 -- what leaves the words of the first n records leaves these records
-pub rec-kept : (q q′ : List ℕ) (w n i : ℕ) → take (n * w) q′ ≡ take (n * w) q → i < n → rec q′ w i ≡ rec q w i
-rec-kept q q′ w n i e h =
+pub rec-kept : (q q' : List ℕ) (w n i : ℕ) → take (n * w) q' ≡ take (n * w) q → i < n → rec q' w i ≡ rec q w i
+rec-kept q q' w n i e h =
     let m = ends-within w n i h in
-    sym (rec-take q′ w (n * w) i m) ∙ ap (λ x. rec x w i) e ∙ rec-take q w (n * w) i m
+    sym (rec-take q' w (n * w) i m) ∙ ap (λ x. rec x w i) e ∙ rec-take q w (n * w) i m
 
 -- the part of the words that is record i, as the code cuts it out
 pub rec-part : (q : List ℕ) (w i : ℕ) → take (i * w + w - i * w) (drop (i * w) q) ≡ rec q w i
@@ -51,16 +45,16 @@ unfolding rec
 rec-part q w i = let e : i * w + w - i * w ≡ w = omega arith in ap (λ x. take x (drop (i * w) q)) e
 
 -- record i, written over
-pub rec-put : (q key : List ℕ) (w i : ℕ) → i * w + w ≤ length q → length key ≡ w → rec (putMid (i * w) (i * w + w - i * w) q key) w i ≡ key
+pub rec-put : (q key : List ℕ) (w i : ℕ) → i * w + w ≤ length q → length key ≡ w → rec (put_mid (i * w) (i * w + w - i * w) q key) w i ≡ key
 rec-put q key w i h e =
-    sym (rec-part (putMid (i * w) (i * w + w - i * w) q key) w i)
-    ∙ between-putMid (i * w) (i * w + w - i * w) q key (i * w + w) (omega arith) (omega arith)
+    sym (rec-part (put_mid (i * w) (i * w + w - i * w) q key) w i)
+    ∙ between-put_mid (i * w) (i * w + w - i * w) q key (i * w + w) (omega arith) (omega arith)
 
 -- one more record, which none of the others was
-pub apart-more : (q q′ : List ℕ) (w n : ℕ) (key : List ℕ) → Apart q w n → take (n * w) q′ ≡ take (n * w) q → rec q′ w n ≡ key → ((i : ℕ) → i < n → rec q w i ≡ key → ⊥) → Apart q′ w (n + 1)
-apart-more q q′ w n key apart kept here new i j l m e =
-    let old = rec-kept q q′ w n in
-    elim (cases-eq j n) [
-      | inl last ↦ new i (omega arith) (sym (old i kept (omega arith)) ∙ e ∙ ap (rec q′ w) last ∙ here)
+pub apart_more : (q q' : List ℕ) (w n : ℕ) (key : List ℕ) → Apart q w n → take (n * w) q' ≡ take (n * w) q → rec q' w n ≡ key → ((i : ℕ) → i < n → rec q w i ≡ key → ⊥) → Apart q' w (n + 1)
+apart_more q q' w n key apart kept here new i j l m e =
+    let old = rec-kept q q' w n in
+    elim (cases_eq j n) [
+      | inl last ↦ new i (omega arith) (sym (old i kept (omega arith)) ∙ e ∙ ap (rec q' w) last ∙ here)
       | inr ne ↦ apart i j l (omega arith) (sym (old i kept (omega arith)) ∙ e ∙ old j kept (omega arith))
     ]

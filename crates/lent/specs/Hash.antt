@@ -1,8 +1,6 @@
 -- The hash of a list of words, of 64 bits: a sum of products with odd factors, one for each word, so that words that differ
 -- in few bits differ in the highest bits of the hash.
-use mathlib.Core.List.{List, [], _∷_}
-use Prim.Native.Nat.{ℕ, suc, _+_, _*_, _%_, _^_}
-use lib.ListN.{getD}
+use Rattle.std.specs.Prelude.{ℕ, suc, ◌+◌, ◌*◌, ◌%◌, ◌^◌, List, [], ◌∷◌, slice_index}
 
 factors : List ℕ
 factors =
@@ -27,7 +25,7 @@ factors =
 -- one word more, which stands at `at`
 unfoldable pub stir : ℕ → ℕ → ℕ → ℕ
 unfolding factors
-stir h at w = (h + (getD factors (at % 16) 0 * w) % 2 ^ 64) % 2 ^ 64
+stir h at w = (h + (slice_index factors (at % 16) * w) % 2 ^ 64) % 2 ^ 64
 
 -- the words from `at` on
 abbrev pub hash-from : ℕ → ℕ → List ℕ → ℕ

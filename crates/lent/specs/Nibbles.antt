@@ -1,7 +1,6 @@
 -- 4-bit fields of a number, the lowest first. Both are shut: at a numeral they would unfold into quotients of
 -- quotients wherever they stand.
-use mathlib.Core.List.{List, [], _∷_}
-use Prim.Native.Nat.{ℕ, zero, suc, _+_, _*_, _/_, _%_, _<_}
+use Rattle.std.specs.Prelude.{ℕ, zero, suc, ◌+◌, ◌*◌, ◌/◌, ◌%◌, ◌<◌, List, [], ◌∷◌}
 
 -- the k lowest fields of n
 unfoldable pub nibbles : ℕ → ℕ → List ℕ

@@ -2,83 +2,80 @@
 -- a probe that goes up by one finds a free place before the end. A place holds i + 1 for record i. The table knows the
 -- records from `since` on: a place that holds no more than `since`, 0 or an older record's number, is free, so that all
 -- records are forgotten at once, with no place cleared.
-use mathlib.Core.Path.{_≡_}
-use mathlib.Core.List.{List}
-use Prim.Native.Nat.{ℕ, _+_, _*_, _-_, _/_, _^_, _<_, _≤_}
-use lib.ListN.{length, getD, set, take, drop}
-use Rattle·lent·specs.declared.shape.Shape.{Shape}
-use Rattle·lent·specs.Hash.{hash-of}
-use Rattle·lent·specs.Records.{rec}
+use Rattle.std.specs.Prelude.{◌≡◌, ℕ, ◌+◌, ◌-◌, ◌*◌, ◌/◌, ◌^◌, ◌<◌, ◌≤◌, List, length, take, drop, ◌≢◌, slice_index, slice_index_or, slice_set}
+use Rattle.lent.specs.declared.shape.Shape.{Shape}
+use Rattle.lent.specs.Hash.{hash-of}
+use Rattle.lent.specs.Records.{rec}
 
 abbrev pub homes : Shape → ℕ
-homes s = 2 ^ s .bits
+homes s = 2 ^ s.bits
 
 abbrev pub places : Shape → ℕ
-places s = homes s + s .room
+places s = homes s + s.room
 
 -- where the probe for a key begins: the highest bits of its hash
 unfoldable pub home : Shape → List ℕ → ℕ
-home s key = hash-of key / 2 ^ (64 - s .bits)
+home s key = hash-of key / 2 ^ (64 - s.bits)
 
 -- no place from a to b is free
 abbrev pub Full : List ℕ → ℕ → ℕ → ℕ → Type 0
-Full t since a b = (k : ℕ) → a ≤ k → k < b → since < getD t k 0
+Full t since a b = (k : ℕ) → a ≤ k → k < b → since < slice_index t k
 
 -- some place from a on is free
 pub record SomeFree (t : List ℕ) (since a : ℕ) : Type 0 where
   pub place : ℕ
   pub behind : a ≤ place
   pub inside : place < length t
-  pub empty : getD t place 0 ≤ since
+  pub empty : slice_index_or t place 0 ≤ since
 
 -- the first that is
 pub record FirstFree (t : List ℕ) (since a place : ℕ) : Type 0 where
   pub behind : a ≤ place
   pub inside : place < length t
-  pub empty : getD t place 0 ≤ since
+  pub empty : slice_index_or t place 0 ≤ since
   pub full : Full t since a place
 
 -- the probe for record i comes to its place
 pub record Placed (s : Shape) (q t : List ℕ) (since n i : ℕ) : Type 0 where
   pub place : ℕ
-  pub behind : home s (rec q (s .width) i) ≤ place
+  pub behind : home s (rec q s.width i) ≤ place
   pub within : place + since < homes s + n
-  pub entry : getD t place 0 ≡ i + 1
-  pub full : Full t since (home s (rec q (s .width) i)) place
+  pub entry : slice_index_or t place 0 ≡ i + 1
+  pub full : Full t since (home s (rec q s.width i)) place
 
 -- of the first n records of q the table t has those from `since` on, and nothing else
 pub record Probed (s : Shape) (q t : List ℕ) (since n : ℕ) : Type 0 where
   pub begun : since ≤ n
-  pub few : n ≤ since + s .room
-  pub held : n * s .width ≤ length q
+  pub few : n ≤ since + s.room
+  pub held : n * s.width ≤ length q
   pub fits : places s ≤ length t
-  pub entries : (p : ℕ) → p < places s → getD t p 0 ≤ n
-  pub reach : (p : ℕ) → p < places s → since < getD t p 0 → p + since < homes s + n
+  pub entries : (p : ℕ) → p < places s → slice_index t p ≤ n
+  pub reach : (p : ℕ) → p < places s → since < slice_index t p → p + since < homes s + n
   pub placed : (i : ℕ) → since ≤ i → i < n → Placed s q t since n i
 
 -- the probe for a key ended at a free place: no record that the table has is the key, and it may be entered here
 pub record Free (s : Shape) (q t : List ℕ) (since n : ℕ) (key : List ℕ) (place : ℕ) : Type 0 where
-  pub empty : getD t place 0 ≤ since
+  pub empty : slice_index_or t place 0 ≤ since
   pub behind : home s key ≤ place
   pub within : place + since ≤ homes s + n
   pub full : Full t since (home s key) place
-  pub new : (i : ℕ) → since ≤ i → i < n → rec q (s .width) i ≡ key → ⊥
+  pub new : (i : ℕ) → since ≤ i → i < n → rec q s.width i ≢ key
 
 -- the place tells the record that is the key
 pub record Known (s : Shape) (q t : List ℕ) (n : ℕ) (key : List ℕ) (place : ℕ) : Type 0 where
-  pub below : getD t place 0 ≤ n
-  pub same : rec q (s .width) (getD t place 0 - 1) ≡ key
+  pub below : slice_index_or t place 0 ≤ n
+  pub same : rec q s.width (slice_index t place - 1) ≡ key
 
 -- where the probe for a key ended
 pub record Stop (s : Shape) (q t : List ℕ) (since n : ℕ) (key : List ℕ) (place : ℕ) : Type 0 where
   pub inside : place < places s
-  pub known : since < getD t place 0 → Known s q t n key place
-  pub free : getD t place 0 ≤ since → Free s q t since n key place
+  pub known : since < slice_index t place → Known s q t n key place
+  pub free : slice_index_or t place 0 ≤ since → Free s q t since n key place
 
 -- the key is record n now, and the table has it
-pub record Inserted (s : Shape) (q t : List ℕ) (since n : ℕ) (key : List ℕ) (place : ℕ) (q′ t′ : List ℕ) : Type 0 where
-  pub probed : Probed s q′ t′ since (n + 1)
-  pub here : rec q′ (s .width) n ≡ key
-  pub kept : take (n * s .width) q′ ≡ take (n * s .width) q
-  pub rest : drop ((n + 1) * s .width) q′ ≡ drop ((n + 1) * s .width) q
-  pub entered : t′ ≡ set t place (n + 1)
+pub record Inserted (s : Shape) (q t : List ℕ) (since n : ℕ) (key : List ℕ) (place : ℕ) (q' t' : List ℕ) : Type 0 where
+  pub probed : Probed s q' t' since (n + 1)
+  pub here : rec q' s.width n ≡ key
+  pub kept : take (n * s.width) q' ≡ take (n * s.width) q
+  pub rest : drop ((n + 1) * s.width) q' ≡ drop ((n + 1) * s.width) q
+  pub entered : t' ≡ slice_set t place (n + 1)

@@ -1,8 +1,8 @@
 // The hash of a key. Every bit of the key counts, also where keys differ in few bits, and the highest bits of the hash are
 // the best mixed. It is quick: no product waits for another. Words are taken one by one, since a key has just been written
 // by words: to read two at once would wait for the writes.
-ghost use mathlib.Core.Path.{_≡_};
-ghost use Rattle·lent·specs.Hash.{stir, hash-of};
+ghost use Rattle.std.specs.Prelude.{◌≡◌};
+ghost use Rattle.lent.specs.Hash.{stir, hash-of};
 
 // Odd numbers with about as many ones as zeros, one for each word in turn.
 const FACTORS: [u64; 16] = [
@@ -26,13 +26,13 @@ const FACTORS: [u64; 16] = [
 
 // Takes the word of a key that stands at `at` into the hash so far.
 fn stirred(h: u64, at: usize, word: u32) -> u64
-    ensures { λ r. ⌜ r ≡ stir h at word ⌝ }
+    ensures { result ≡ stir h at word }
 {
     h.wrapping_add(FACTORS[at % 16].wrapping_mul(word as u64))
 }
 
 pub fn hash(key: &[u32]) -> u64
-    ensures { λ r. ⌜ r ≡ hash-of (now (key .entry)) ⌝ }
+    ensures { result ≡ hash-of key.now }
 {
     let mut h = 0;
     for i in 0..key.len() {

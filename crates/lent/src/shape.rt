@@ -1,5 +1,5 @@
 // How many words a record has, and how large the table of the records is.
-ghost use Prim.Native.Nat.{_<_, _≤_, _^_};
+ghost use Rattle.std.specs.Prelude.{◌^◌, ◌<◌, ◌≤◌};
 
 #[derive(Clone, Copy)]
 pub struct Shape {

@@ -2,8 +2,7 @@
 // for the text and its names. It is given back before a run is made again and printed, which takes room too.
 use fences::looking;
 use fences::looking::Looked;
-use std::alloc::AllocError;
-use std::alloc::Global;
+use std::alloc::{AllocError, Global};
 
 const WORK: usize = 950_000;
 

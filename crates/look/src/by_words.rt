@@ -4,8 +4,6 @@ use crate::answers::Lent;
 use cli::lines::ForWords;
 use cli::numbers;
 use cli::troubles::Trouble;
-use cli::troubles::TroubleFromAlloc;
-use cli::troubles::TroubleFromWrite;
 use fences::looking::Looked;
 
 // The answer where it is one word, or two.
@@ -20,8 +18,8 @@ fn short(looked: Looked) -> &'static str {
     }
 }
 
-pub impl ForWords for Lent as LentForWords {
-    fn answer(&mut self, rt: &LibcRuntime, words: &[u32]) -> Result<(), Trouble> {
+impl ForWords for Lent {
+    fn answer(&mut self, rt: &HostRuntime, words: &[u32]) -> Result<(), Trouble> {
         let looked = self.look(rt.alloc(), words)?;
         let Looked::Fences(moves, fences) = looked else {
             rt.println(short(looked))?;
@@ -30,7 +28,7 @@ pub impl ForWords for Lent as LentForWords {
         let count = fences.saturating_mul(2).saturating_add(moves);
         let told = answers::part(self.out.as_slice(), 0, count);
         let told = numbers::line(rt.alloc(), told)?;
-        println!(rt, "fences {moves} {fences} {told}")?;
+        println!(rt; "fences {moves} {fences} {told}")?;
         Ok(())
     }
 }

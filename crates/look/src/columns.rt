@@ -1,6 +1,5 @@
 // Lines of cells, lined up in columns.
-use std::alloc::AllocError;
-use std::alloc::Global;
+use std::alloc::{AllocError, Global};
 
 // The width of column `k`.
 fn width(lines: &[Vec<String>], k: usize) -> usize {

@@ -1,12 +1,10 @@
 // What was found of a program that is not plain: what comes out only where stores wait, and the run that comes to it,
 // made again by the machine's step.
-use crate::columns;
-use crate::moves;
+use crate::{columns, moves};
 use cli::shown;
 use program::words::from_words;
 use replay::runs::Run;
-use std::alloc::AllocError;
-use std::alloc::Global;
+use std::alloc::{AllocError, Global};
 use text::source::Source;
 
 #[derive(Drop)]
@@ -25,7 +23,7 @@ fn outcome(heap: Global, source: &Source, run: &Run) -> Result<String, AllocErro
         }
         let title = one.title.as_str();
         let value = run.value(one.at);
-        text.push_str(format!(heap, "{title} = {value}")?.as_str())?;
+        text.push_str(format!(in heap; "{title} = {value}")?.as_str())?;
     }
     Ok(text)
 }

@@ -7,19 +7,11 @@ mod moves;
 mod verdict;
 
 use crate::answers::Lent;
-use crate::by_words::LentForWords;
-use crate::verdict::LentForSource;
-use cli::arguments;
-use cli::arguments::Mode;
-use cli::arguments::Request;
-use cli::files;
-use cli::files::ToWords;
-use cli::files::ToWordsForSource;
-use cli::lines;
-use cli::troubles;
+use cli::arguments::{Mode, Request};
+use cli::files::{ForSource, ToWords};
+use cli::lines::ForWords;
 use cli::troubles::Trouble;
-use cli::troubles::TroubleFromAlloc;
-use cli::troubles::TroubleFromWrite;
+use cli::{arguments, files, lines, troubles};
 
 const HELP: &str = "usage: look [--help | --to-words] [FILE..]
        look --words
@@ -40,7 +32,7 @@ stands under its file's name.
 
 docs/FORMAT.md says how programs are written.";
 
-fn run(rt: &LibcRuntime) -> Result<(), Trouble> {
+fn run(rt: &HostRuntime) -> Result<(), Trouble> {
     let Request { mode, files } = arguments::asked(rt)?;
     match mode {
         Mode::Help => rt.println(HELP)?,
@@ -57,6 +49,6 @@ fn run(rt: &LibcRuntime) -> Result<(), Trouble> {
     Ok(())
 }
 
-fn main(rt: LibcRuntime) -> Result<(), Trouble> {
+fn main(rt: HostRuntime) -> Result<(), Trouble> {
     troubles::report(&rt, run(&rt))
 }

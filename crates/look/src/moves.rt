@@ -4,8 +4,7 @@ use machine::stores::Store;
 use machine::threads::ThreadState;
 use program::instructions::Place;
 use replay::runs::Run;
-use std::alloc::AllocError;
-use std::alloc::Global;
+use std::alloc::{AllocError, Global};
 use text::printing;
 use text::source::Source;
 
@@ -62,7 +61,7 @@ fn out_cells(heap: Global, source: &Source, run: &Run, n: usize) -> Result<Cells
     if let Some(t) = run.thread(n) {
         if let Some(oldest) = waiting(&t).first() {
             let name = printing::place(heap, source.places.as_slice(), oldest.place)?;
-            cell = format!(heap, "[{name}] to memory")?;
+            cell = format!(in heap; "[{name}] to memory")?;
             place = Some(oldest.place);
         }
     }
@@ -91,7 +90,7 @@ fn push_waiting(
     for s in stores {
         let place = printing::place(heap, source.places.as_slice(), s.place)?;
         let value = s.value;
-        text.push_str(format!(heap, " [{place}]={value}")?.as_str())?;
+        text.push_str(format!(in heap; " [{place}]={value}")?.as_str())?;
     }
     Ok(())
 }
@@ -122,7 +121,7 @@ fn memory_cell(
     let name = printing::place(heap, source.places.as_slice(), place)?;
     let registers = source.threads.len().saturating_mul(REGISTERS);
     let value = run.value(registers.saturating_add(place.0 as usize));
-    format!(heap, "[{name}] = {value}")
+    format!(in heap; "[{name}] = {value}")
 }
 
 fn heading(heap: Global, source: &Source) -> Result<Vec<String>, AllocError> {

@@ -1,21 +1,16 @@
 // The verdict on a program, and what shows it.
-use crate::answers;
 use crate::answers::Lent;
-use crate::found;
 use crate::found::Found;
-use cli::fenced;
+use crate::{answers, found};
 use cli::files::ForSource;
-use cli::troubles;
 use cli::troubles::Trouble;
-use cli::troubles::TroubleFromAlloc;
-use cli::troubles::TroubleFromWrite;
+use cli::{fenced, troubles};
 use fences::looking::Looked;
-use text::printing;
 use text::source::Source;
-use text::words;
+use text::{printing, words};
 
 // Prints where a fence is put, by the thread's name and by the instruction behind the fence.
-fn print_fence(rt: &LibcRuntime, source: &Source, n: u32, at: u32) -> Result<(), Trouble> {
+fn print_fence(rt: &HostRuntime, source: &Source, n: u32, at: u32) -> Result<(), Trouble> {
     let Some(thread) = source.threads.as_slice().get(n as usize) else {
         return Ok(());
     };
@@ -25,12 +20,12 @@ fn print_fence(rt: &LibcRuntime, source: &Source, n: u32, at: u32) -> Result<(),
     let name = thread.name.as_str();
     let number = at.saturating_add(1);
     let text = printing::cell_text(rt.alloc(), source.places.as_slice(), *i)?;
-    println!(rt, "a fence before instruction {number} of {name}, {text}")?;
+    println!(rt; "a fence before instruction {number} of {name}, {text}")?;
     Ok(())
 }
 
 // The same for each fence that is told by its thread and instruction.
-fn print_fences(rt: &LibcRuntime, source: &Source, fences: &[u32]) -> Result<(), Trouble> {
+fn print_fences(rt: &HostRuntime, source: &Source, fences: &[u32]) -> Result<(), Trouble> {
     for fence in fences.chunks_exact(2) {
         if let [n, at] = fence {
             print_fence(rt, source, *n, *at)?;
@@ -40,7 +35,7 @@ fn print_fences(rt: &LibcRuntime, source: &Source, fences: &[u32]) -> Result<(),
 }
 
 // Prints the program with the fences in.
-fn print_fenced(rt: &LibcRuntime, source: &Source, fences: &[u32]) -> Result<(), Trouble> {
+fn print_fenced(rt: &HostRuntime, source: &Source, fences: &[u32]) -> Result<(), Trouble> {
     let heap = rt.alloc();
     let fenced = fenced::fenced(heap, source, fences)?;
     rt.print(printing::print(heap, &fenced)?)?;
@@ -50,26 +45,26 @@ fn print_fenced(rt: &LibcRuntime, source: &Source, fences: &[u32]) -> Result<(),
     Ok(())
 }
 
-fn print_verdict(rt: &LibcRuntime, fences: usize) -> Result<(), Trouble> {
+fn print_verdict(rt: &HostRuntime, fences: usize) -> Result<(), Trouble> {
     if fences == 1 {
         rt.println("not plain: 1 fence makes it plain")?;
         return Ok(());
     }
-    println!(rt, "not plain: {fences} fences make it plain, fewer do not")?;
+    println!(rt; "not plain: {fences} fences make it plain, fewer do not")?;
     Ok(())
 }
 
 // Prints what comes out, and the run of so many moves that comes to it.
-fn print_run(rt: &LibcRuntime, found: &Found, moves: usize) -> Result<(), Trouble> {
+fn print_run(rt: &HostRuntime, found: &Found, moves: usize) -> Result<(), Trouble> {
     let outcome = found.outcome.as_str();
-    println!(rt, "\ncomes out only where stores wait: {outcome}")?;
-    println!(rt, "\nby {moves} moves:\n")?;
+    println!(rt; "\ncomes out only where stores wait: {outcome}")?;
+    println!(rt; "\nby {moves} moves:\n")?;
     rt.println(found.table.as_str())?;
     Ok(())
 }
 
 // Prints an answer that is no run and no fences.
-fn print_short(rt: &LibcRuntime, file: &str, looked: Looked) -> Result<(), Trouble> {
+fn print_short(rt: &HostRuntime, file: &str, looked: Looked) -> Result<(), Trouble> {
     match looked {
         Looked::Plain => rt.println("plain: all that comes out comes out at once")?,
         Looked::Crowded => rt.println("crowded: there are more states than 4 MiB hold")?,
@@ -78,9 +73,9 @@ fn print_short(rt: &LibcRuntime, file: &str, looked: Looked) -> Result<(), Troub
     Ok(())
 }
 
-pub impl ForSource for Lent as LentForSource {
+impl ForSource for Lent {
     // Prints whether a program is plain; if it is not, a run that shows it and the fewest fences with which it is.
-    fn answer(&mut self, rt: &LibcRuntime, file: &str, source: &Source) -> Result<(), Trouble> {
+    fn answer(&mut self, rt: &HostRuntime, file: &str, source: &Source) -> Result<(), Trouble> {
         let heap = rt.alloc();
         let words = words::to_words(heap, source)?;
         let looked = self.look(heap, words.as_slice())?;

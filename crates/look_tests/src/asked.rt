@@ -1,8 +1,6 @@
 // The call with memory of its own. The words that it may write to are filled before with numbers that no answer has.
-use fences::looking::Looked;
-use fences::looking::look;
-use std::alloc::AllocError;
-use std::alloc::Global;
+use fences::looking::{Looked, look};
+use std::alloc::{AllocError, Global};
 
 #[derive(Drop)]
 pub struct Asked {

@@ -1,12 +1,9 @@
 // What is answered, and what is written, where words are short or states are many.
-use crate::asked::ask;
-use crate::asked::enough;
-use crate::asked::unchanged;
+use crate::asked::{ask, enough, unchanged};
 use crate::texts;
 use fences::looking::Looked;
 use std::alloc::Global;
-use std::test::*;
-use text::faults::FaultDebug;
+use std::test::Fail;
 use text::reading::parse;
 use text::words::to_words;
 use trials::known;
@@ -17,44 +14,45 @@ fn words_of(heap: Global, text: &str) -> Result<Vec<u32>, Fail> {
 }
 
 #[test]
-fn fewer_than_256_words_are_too_few_for_fences(rt: LibcRuntime) -> Result<(), Fail> {
+fn fewer_than_256_words_are_too_few_for_fences(rt: HostRuntime) -> Result<(), Fail> {
     let heap = rt.alloc();
     let words = words_of(heap, texts::STORE_BUFFERING)?;
     for room in [0u32, 127, 255] {
         let got = ask(heap, words.as_slice(), 100, room, enough(100))?;
-        check(matches!(got.looked, Looked::OutFull))?;
-        check(unchanged(got.out.as_slice(), 0))?;
+        assert!(rt; matches!(got.looked, Looked::OutFull));
+        assert!(rt; unchanged(got.out.as_slice(), 0));
     }
     let got = ask(heap, words.as_slice(), 100, 256, enough(100))?;
-    check(matches!(got.looked, Looked::Fences(8, 2)))?;
-    check(unchanged(got.out.as_slice(), 12))?;
-    check(!unchanged(got.out.as_slice(), 11))
+    assert!(rt; matches!(got.looked, Looked::Fences(8, 2)));
+    assert!(rt; unchanged(got.out.as_slice(), 12));
+    assert!(rt; !unchanged(got.out.as_slice(), 11));
+    Ok(())
 }
 
 // A plain program and words that are no program are answered with no words to write to.
 #[test]
-fn nothing_else_is_written(rt: LibcRuntime) -> Result<(), Fail> {
+fn nothing_else_is_written(rt: HostRuntime) -> Result<(), Fail> {
     let heap = rt.alloc();
     let plain = known::words_in(heap, known::MESSAGE_PASSING)?;
     for room in [0u32, 127, 255, 256] {
         let got = ask(heap, plain.as_slice(), 100, room, enough(100))?;
-        check(matches!(got.looked, Looked::Plain))?;
-        check(unchanged(got.out.as_slice(), 0))?;
+        assert!(rt; matches!(got.looked, Looked::Plain));
+        assert!(rt; unchanged(got.out.as_slice(), 0));
         let got = ask(heap, &[2, 9], 100, room, enough(100))?;
-        check(matches!(got.looked, Looked::NoProgram))?;
-        check(unchanged(got.out.as_slice(), 0))?;
+        assert!(rt; matches!(got.looked, Looked::NoProgram));
+        assert!(rt; unchanged(got.out.as_slice(), 0));
     }
     Ok(())
 }
 
 // The program has 45 states. More than are allowed are answered for where the lent memory holds them.
 #[test]
-fn few_words_lent(rt: LibcRuntime) -> Result<(), Fail> {
+fn few_words_lent(rt: HostRuntime) -> Result<(), Fail> {
     let heap = rt.alloc();
     let words = words_of(heap, texts::STORE_BUFFERING)?;
     for most in [0u32, 44, 45] {
         let got = ask(heap, words.as_slice(), most, 256, enough(most))?;
-        check(matches!(got.looked, Looked::Fences(8, 2)))?;
+        assert!(rt; matches!(got.looked, Looked::Fences(8, 2)));
         let got = ask(
             heap,
             words.as_slice(),
@@ -62,17 +60,18 @@ fn few_words_lent(rt: LibcRuntime) -> Result<(), Fail> {
             256,
             enough(most).saturating_sub(1),
         )?;
-        check(matches!(got.looked, Looked::Few))?;
-        check(unchanged(got.out.as_slice(), 0))?;
+        assert!(rt; matches!(got.looked, Looked::Few));
+        assert!(rt; unchanged(got.out.as_slice(), 0));
     }
     Ok(())
 }
 
 #[test]
-fn many_states_are_crowded(rt: LibcRuntime) -> Result<(), Fail> {
+fn many_states_are_crowded(rt: HostRuntime) -> Result<(), Fail> {
     let heap = rt.alloc();
     let words = words_of(heap, texts::CROWDED)?;
     let got = ask(heap, words.as_slice(), 2000, 256, enough(2000))?;
-    check(matches!(got.looked, Looked::Crowded))?;
-    check(unchanged(got.out.as_slice(), 0))
+    assert!(rt; matches!(got.looked, Looked::Crowded));
+    assert!(rt; unchanged(got.out.as_slice(), 0));
+    Ok(())
 }

@@ -1,75 +1,68 @@
 -- An instruction done by the code is the definition's: the model's lists read and written by fields of a number.
-use mathlib.Core.Path.{_≡_, refl, sym, ap, _∙_}
-use mathlib.Core.Bool.{Bool, true, false}
-use mathlib.Core.List.{List, [], _∷_, _++_}
+use Rattle.std.proofs.Common.{◌≡◌, ℕ, zero, suc, ◌+◌, ◌%◌, ◌^◌, ◌<◌, ◌≤◌, Bool, true, false, eqb, List, [], ◌∷◌, ◌++◌, length, get_or, take, drop, set, sym, refl, ap, ◌∙◌, add-one, arith}
 use mathlib.Core.Option.{some, none}
-use Prim.Native.Nat.{ℕ, zero, suc, _+_, _%_, _^_, _<_, _≤_}
-use native.Mathlib.Numerals.{add-one}
-use native.Mathlib.Omega.{arith}
-use lib.Bits.{bitAnd}
-use lib.Dec.{eqb}
-use lib.ListN.{getD, set, length, take, drop}
-use Rattle·std.proofs.shelf.Bits.{and-mask}
-use Rattle·lent.specs.Nibbles.{nibbles}
-use Rattle·lent.proofs.Fields.{nibble-small}
-use Rattle·model.specs.Code.{opt, nth, put, pick, adds, loads, stores, fence}
-use Rattle·model.specs.Machine.{At, Wait, done, newest, reg, at-mem, empty, does}
-use Rattle·machine·specs.declared.stores.Store.{Store}
-use Rattle·machine·specs.Stores.{row, AllSmall, wait}
+use lib.Bits.{bit_and}
+use Rattle.std.proofs.lemmas.Nat.{and_mask}
+use Rattle.lent.specs.Nibbles.{nibbles}
+use Rattle.lent.proofs.Fields.{nibble-small}
+use Rattle.model.specs.Code.{opt, nth, put, pick, adds, loads, stores, fence}
+use Rattle.model.specs.Machine.{At, Wait, done, newest, reg, at_mem, empty, does}
+use Rattle.machine.specs.declared.stores.Store.{Store}
+use Rattle.machine.specs.Stores.{row, AllSmall, wait}
 
 pub put-set : {A : Type 0} (xs : List A) (n : ℕ) (v : A) → put xs n v ≡ set xs n v
 put-set [] n v = refl
 put-set (x ∷ xs) zero v = refl
 put-set (x ∷ xs) (suc n) v = ap (λ r. x ∷ r) (put-set xs n v)
 
-pub nth-getD : (xs : List ℕ) (n : ℕ) → opt (nth xs n) 0 (λ x. x) ≡ getD xs n 0
+pub nth-getD : (xs : List ℕ) (n : ℕ) → opt (nth xs n) 0 (λ x. x) ≡ get_or xs n 0
 nth-getD [] n = refl
 nth-getD (x ∷ xs) zero = refl
 nth-getD (x ∷ xs) (suc n) = nth-getD xs n
 
 -- a field read is the register or the place read
-pub field-read : (k n at r : ℕ) → r ≡ getD (nibbles k n) at 0 → r ≡ opt (nth (nibbles k n) at) 0 (λ x. x)
+pub field-read : (k n at r : ℕ) → r ≡ get_or (nibbles k n) at 0 → r ≡ opt (nth (nibbles k n) at) 0 (λ x. x)
 field-read k n at r e = e ∙ sym (nth-getD (nibbles k n) at)
 
-pub field-written : (k n n′ at v : ℕ) → nibbles k n′ ≡ set (nibbles k n) at v → nibbles k n′ ≡ put (nibbles k n) at v
-field-written k n n′ at v e = e ∙ sym (put-set (nibbles k n) at v)
+pub field-written : (k n n' at v : ℕ) → nibbles k n' ≡ set (nibbles k n) at v → nibbles k n' ≡ put (nibbles k n) at v
+field-written k n n' at v e = e ∙ sym (put-set (nibbles k n) at v)
 
 -- a sum in four bits
-pub sum-is : (a b : ℕ) → bitAnd (a + b) 15 ≡ (a + b) % 16
-sum-is a b = and-mask (a + b) 4
+pub sum_is : (a b : ℕ) → bit_and (a + b) 15 ≡ (a + b) % 16
+sum_is a b = and_mask (a + b) 4
 
 -- what a thread reads is below 16
-pub newest-small : (ws : List Wait) (x v : ℕ) → v < 16 → ((n : ℕ) (w : Wait) → nth ws n ≡ some w → w .val < 16) → newest ws x v < 16
+pub newest-small : (ws : List Wait) (x v : ℕ) → v < 16 → ((n : ℕ) (w : Wait) → nth ws n ≡ some w → w.val < 16) → newest ws x v < 16
 newest-small [] x v h small = h
 newest-small (w ∷ ws) x v h small =
-    newest-small ws x (pick (eqb (w .place) x) (w .val) v) (either (eqb (w .place) x)) (λ n u e. small (suc n) u e)
+    newest-small ws x (pick (eqb w.place x) w.val v) (either (eqb w.place x)) (λ n u e. small (suc n) u e)
   where
-    either : (b : Bool) → pick b (w .val) v < 16
+    either : (b : Bool) → pick b w.val v < 16
     either true = small 0 w refl
     either false = h
 
-row-small : (items : List Store) → ((k : ℕ) (s : Store) → k < length items → getD items k s .value < 16) → (begin len n : ℕ) (w : Wait) → nth (row items begin len) n ≡ some w → w .val < 16
-row-small items small begin zero n w e = let z : _≡_ {A = ℕ} 0 1 = cc in omega arith
-row-small [] small zero (suc len) n w e = let z : _≡_ {A = ℕ} 0 1 = cc in omega arith
-row-small [] small (suc begin) (suc len) n w e = let z : _≡_ {A = ℕ} 0 1 = cc in omega arith
-row-small (s ∷ items) small zero (suc len) zero w e = let f : wait s ≡ w = cc in let g = ap (λ (z : Wait). z .val) f in let h = small 0 s (omega arith) in omega arith
-row-small (s ∷ items) small zero (suc len) (suc n) w e = row-small items (λ k d l. small (suc k) d (omega arith)) zero len n w e
-row-small (s ∷ items) small (suc begin) (suc len) n w e = row-small items (λ k d l. small (suc k) d (omega arith)) begin (suc len) n w e
+row_small : (items : List Store) → ((k : ℕ) (s : Store) → k < length items → (get_or items k s).value < 16) → (begin len n : ℕ) (w : Wait) → nth (row items begin len) n ≡ some w → w.val < 16
+row_small items small begin zero n w e = let z : ◌≡◌ {A = ℕ} 0 1 = cc in omega arith
+row_small [] small zero (suc len) n w e = let z : ◌≡◌ {A = ℕ} 0 1 = cc in omega arith
+row_small [] small (suc begin) (suc len) n w e = let z : ◌≡◌ {A = ℕ} 0 1 = cc in omega arith
+row_small (s ∷ items) small zero (suc len) zero w e = let f : wait s ≡ w = cc in let g = ap (λ (z : Wait). z.val) f in let h = small 0 s (omega arith) in omega arith
+row_small (s ∷ items) small zero (suc len) (suc n) w e = row_small items (λ k d l. small (suc k) d (omega arith)) zero len n w e
+row_small (s ∷ items) small (suc begin) (suc len) n w e = row_small items (λ k d l. small (suc k) d (omega arith)) begin (suc len) n w e
 
-pub read-small : (items : List Store) (begin len x v : ℕ) → AllSmall items → v < 16 → newest (row items begin len) x v < 16
-read-small items begin len x v small h = newest-small (row items begin len) x v h (row-small items (λ k s l. small k s l .1) begin len)
+pub read_small : (items : List Store) (begin len x v : ℕ) → AllSmall items → v < 16 → newest (row items begin len) x v < 16
+read_small items begin len x v small h = newest-small (row items begin len) x v h (row_small items (λ k s l. (small k s l).1) begin len)
 
 -- each instruction, by what the code read and made
-pub did-add : (m : List ℕ) (a a′ : At) (r p q x y : ℕ) → x ≡ reg a p → y ≡ reg a q → a′ ≡ done a (put (a .regs) r (bitAnd (x + y) 15)) (a .waits) → does m a (adds r p q) ≡ some a′
-did-add m a a′ r p q x y e f g =
-    let h : (reg a p + reg a q) % 16 ≡ bitAnd (x + y) 15 = sym (sum-is x y ∙ ap (λ z. (z + y) % 16) e ∙ ap (λ z. (reg a p + z) % 16) f) in
-    ap (λ z. some (done a (put (a .regs) r z) (a .waits))) h ∙ ap some (sym g)
+pub did-add : (m : List ℕ) (a a' : At) (r p q x y : ℕ) → x ≡ reg a p → y ≡ reg a q → a' ≡ done a (put a.regs r (bit_and (x + y) 15)) a.waits → does m a (adds r p q) ≡ some a'
+did-add m a a' r p q x y e f g =
+    let h : (reg a p + reg a q) % 16 ≡ bit_and (x + y) 15 = sym (sum_is x y ∙ ap (λ z. (z + y) % 16) e ∙ ap (λ z. (reg a p + z) % 16) f) in
+    ap (λ z. some (done a (put a.regs r z) a.waits)) h ∙ ap some (sym g)
 
-pub did-load : (m : List ℕ) (a a′ : At) (r x v w : ℕ) → v ≡ at-mem m x → w ≡ newest (a .waits) x v → a′ ≡ done a (put (a .regs) r w) (a .waits) → does m a (loads r x) ≡ some a′
-did-load m a a′ r x v w e f g = ap (λ z. some (done a (put (a .regs) r z) (a .waits))) (sym (f ∙ ap (newest (a .waits) x) e)) ∙ ap some (sym g)
+pub did-load : (m : List ℕ) (a a' : At) (r x v w : ℕ) → v ≡ at_mem m x → w ≡ newest a.waits x v → a' ≡ done a (put a.regs r w) a.waits → does m a (loads r x) ≡ some a'
+did-load m a a' r x v w e f g = ap (λ z. some (done a (put a.regs r z) a.waits)) (sym (f ∙ ap (newest a.waits x) e)) ∙ ap some (sym g)
 
-pub did-store : (m : List ℕ) (a a′ : At) (x r v : ℕ) → v ≡ reg a r → a′ ≡ done a (a .regs) (a .waits ++ record { place = x; val = v } ∷ []) → does m a (stores x r) ≡ some a′
-did-store m a a′ x r v e g = ap (λ z. some (done a (a .regs) (a .waits ++ record { place = x; val = z } ∷ []))) (sym e) ∙ ap some (sym g)
+pub did-store : (m : List ℕ) (a a' : At) (x r v : ℕ) → v ≡ reg a r → a' ≡ done a a.regs (a.waits ++ record { place = x; val = v } ∷ []) → does m a (stores x r) ≡ some a'
+did-store m a a' x r v e g = ap (λ z. some (done a a.regs (a.waits ++ record { place = x; val = z } ∷ []))) (sym e) ∙ ap some (sym g)
 
-pub did-not : (m : List ℕ) (a : At) → empty (a .waits) ≡ false → does m a fence ≡ none
-did-not m a e = ap (λ b. pick b (some (done a (a .regs) (a .waits))) none) e
+pub did-not : (m : List ℕ) (a : At) → empty a.waits ≡ false → does m a fence ≡ none
+did-not m a e = ap (λ b. pick b (some (done a a.regs a.waits)) none) e

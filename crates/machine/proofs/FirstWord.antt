@@ -1,39 +1,34 @@
 -- What the first word of a thread says of the thread in a state: which instruction is next, and whether a store waits.
-use mathlib.Core.Path.{_≡_, refl, sym, ap, subst, _∙_}
-use mathlib.Core.List.{List, [], _∷_}
+use Rattle.std.proofs.Common.{◌≡◌, ℕ, suc, ◌+◌, ◌*◌, ◌/◌, ◌%◌, ◌≤◌, eqb, List, [], ◌∷◌, length, get_or, sym, refl, ap, ◌∙◌, subst, arith}
 use mathlib.Core.Option.{some}
-use Prim.Native.Nat.{ℕ, suc, _+_, _*_, _/_, _%_, _≤_}
-use native.Mathlib.Omega.{arith}
-use lib.Dec.{eqb}
-use lib.ListN.{length, getD}
-use Rattle·model.specs.Code.{nth}
-use Rattle·model.specs.Machine.{Wait, At, St, empty}
-use Rattle·model.proofs.Tools.{some-is, nth-below, eqb-not}
-use Rattle·program.specs.declared.threads.Program.{Program}
-use Rattle·program.specs.Meaning.{program}
-use Rattle·program.proofs.WriteWords.{length-program}
-use Rattle·machine·specs.Effects.{Words-at, thread-words}
-use Rattle·machine·specs.Packed.{Packs}
-use Rattle·machine·specs.Post.{Holds}
-use Rattle·machine·proofs.PackLaws.{word-parts}
-use Rattle·machine·proofs.StateLaws.{thread-at, length-pack}
+use Rattle.model.specs.Code.{nth}
+use Rattle.model.specs.Machine.{Wait, At, St, empty}
+use Rattle.model.proofs.Tools.{some_is, nth-below, eqb-not}
+use Rattle.program.specs.declared.threads.Program.{Program}
+use Rattle.program.specs.Meaning.{program}
+use Rattle.program.proofs.WriteWords.{length-program}
+use Rattle.machine.specs.Effects.{Words-at, thread-words}
+use Rattle.machine.specs.Packed.{Packs}
+use Rattle.machine.specs.Post.{Holds}
+use Rattle.machine.proofs.PackLaws.{word-parts}
+use Rattle.machine.proofs.StateLaws.{thread-at, length-pack}
 
-pub word-says : (ws : List ℕ) (s : St) (n : ℕ) (a : At) → Packs ws s → nth (s .threads) n ≡ some a → (getD ws (1 + 3 * n) 0 / 65536 % 16 ≡ a .pc) × (getD ws (1 + 3 * n) 0 / 1048576 ≡ length (a .waits))
+pub word-says : (ws : List ℕ) (s : St) (n : ℕ) (a : At) → Packs ws s → nth s.threads n ≡ some a → (get_or ws (1 + 3 * n) 0 / 65536 % 16 ≡ a.pc) × (get_or ws (1 + 3 * n) 0 / 1048576 ≡ length a.waits)
 word-says ws s n a h e =
-    let (b, f, p) = thread-at ws s n h (nth-below (s .threads) n e) in
-    let same : b ≡ a = some-is (sym f ∙ e) in
-    let q = word-parts (getD ws (1 + 3 * n) 0) (getD ws (2 + 3 * n) 0) (getD ws (3 + 3 * n) 0) a (subst (λ (z : At). Words-at (thread-words ws n) z) same p) in
-    (q .0, q .1)
+    let (b, f, p) = thread-at ws s n h (nth-below s.threads n e) in
+    let same : b ≡ a = some_is (sym f ∙ e) in
+    let q = word-parts (get_or ws (1 + 3 * n) 0) (get_or ws (2 + 3 * n) 0) (get_or ws (3 + 3 * n) 0) a (subst (λ (z : At). Words-at (thread-words ws n) z) same p) in
+    (q.0, q.1)
 
 pub none-waits : (ws : List Wait) → eqb (length ws) 0 ≡ empty ws
 none-waits [] = refl
 none-waits (w ∷ ws) = eqb-not (suc (length ws)) 0 (λ e. omega arith)
 
 -- a state of a program has at most 13 words
-pub few-words : (p : Program) (ws : List ℕ) → Holds (program p) ws → length ws ≤ 13
-few-words p ws h =
+pub few_words : (p : Program) (ws : List ℕ) → Holds (program p) ws → length ws ≤ 13
+few_words p ws h =
     let (s, k, e) = h in
     let l = length-pack ws s k in
     let c = length-program p in
-    let f = p .few in
+    let f = p.few in
     omega arith

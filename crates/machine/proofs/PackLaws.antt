@@ -1,45 +1,39 @@
 -- States as words and back: a number by its fields, a row by two numbers, a thread by three.
-use mathlib.Core.Path.{_≡_, refl, sym, ap, subst, _∙_}
-use mathlib.Core.List.{List, [], _∷_, _++_, map}
-use Prim.Native.Nat.{ℕ, zero, suc, _+_, _*_, _-_, _/_, _%_, _^_, _<_, _≤_}
-use native.Mathlib.Nat.{pow-suc, mul-le-mul-left}
-use native.Mathlib.Numerals.{add-one}
-use native.Mathlib.Omega.{arith}
-use lib.Bits.{bitAnd, bitOr, or-shifted-r}
-use lib.ListN.{length, take, drop, getD, set}
-use Rattle·std.proofs.shelf.Bits.{pow-pos, pow-add, and-mask, shl-whole}
-use Rattle·std.proofs.shelf.Lists.{length-drop, length-take-le, length-map, map-push}
-use Rattle·lent.specs.Nibbles.{nibbles, number, All-below}
-use Rattle·model.specs.Machine.{Wait, At, St}
-use Rattle·machine·specs.declared.stores.Store.{Store}
-use Rattle·machine·specs.Stores.{wait, row, AllSmall}
-use Rattle·lent.proofs.Fields.{nibbles-add, nibbles-number, number-below, number-nibbles, length-nibbles, nibbles-below}
-use Rattle·machine·specs.Packed.{values, places, pairs, first-word, pack-at, unpack-at, Within-at, Packs-at}
-use Rattle·machine·proofs.RowLaws.{row-last, row-pushed}
+use Rattle.std.proofs.Common.{◌≡◌, ℕ, zero, suc, ◌+◌, ◌-◌, ◌*◌, ◌/◌, ◌%◌, ◌^◌, ◌<◌, ◌≤◌, List, [], ◌∷◌, ◌++◌, map, length, get_or, take, drop, set, sym, refl, ap, ◌∙◌, subst, mul-le-mul_left, pow-suc, add-one, arith}
+use lib.Bits.{bit_and, bit_or, or_shifted_r}
+use Rattle.std.proofs.lemmas.Nat.{pow_pos, pow-add, and_mask, shl_whole}
+use Rattle.std.proofs.lemmas.List.{length-drop, length-take-le, length-map, map_push}
+use Rattle.lent.specs.Nibbles.{nibbles, number, All-below}
+use Rattle.model.specs.Machine.{Wait, At, St}
+use Rattle.machine.specs.declared.stores.Store.{Store}
+use Rattle.machine.specs.Stores.{wait, row, AllSmall}
+use Rattle.lent.proofs.Fields.{nibbles-add, nibbles-number, number-below, number-nibbles, length-nibbles, nibbles-below}
+use Rattle.machine.specs.Packed.{values, places, pairs, first_word, pack-at, unpack-at, Within-at, Packs-at}
+use Rattle.machine.proofs.RowLaws.{row_last, row_pushed}
 
 -- one more store read off the two words
-pairs-last : (k v x : ℕ) → pairs (suc k) v x ≡ pairs k v x ++ record { place = getD (nibbles (suc k) x) k 0 % 8; val = getD (nibbles (suc k) v) k 0 } ∷ []
+pairs-last : (k v x : ℕ) → pairs (suc k) v x ≡ pairs k v x ++ record { place = get_or (nibbles (suc k) x) k 0 % 8; val = get_or (nibbles (suc k) v) k 0 } ∷ []
 unfolding nibbles
 pairs-last zero v x = refl
 pairs-last (suc k) v x = ap (λ ws. record { place = x % 16 % 8; val = v % 16 } ∷ ws) (pairs-last k (v / 16) (x / 16))
 
-pub unpacked-more : (items : List Store) (k v x : ℕ) (s : Store) → k < length items → s .place .0 ≡ getD (nibbles (suc k) x) k 0 % 8 → s .value ≡ getD (nibbles (suc k) v) k 0 → row items 0 k ≡ pairs k v x → row (set items k s) 0 (k + 1) ≡ pairs (k + 1) v x
+pub unpacked-more : (items : List Store) (k v x : ℕ) (s : Store) → k < length items → s.place.0 ≡ get_or (nibbles (suc k) x) k 0 % 8 → s.value ≡ get_or (nibbles (suc k) v) k 0 → row items 0 k ≡ pairs k v x → row (set items k s) 0 (k + 1) ≡ pairs (k + 1) v x
 unpacked-more items k v x s h p q e =
     let z : 0 + k ≡ k = omega arith in
-    let w : wait s ≡ record { place = getD (nibbles (suc k) x) k 0 % 8; val = getD (nibbles (suc k) v) k 0 } = cc in
+    let w : wait s ≡ record { place = get_or (nibbles (suc k) x) k 0 % 8; val = get_or (nibbles (suc k) v) k 0 } = cc in
     ap (λ i. row (set items i s) 0 (k + 1)) (sym z)
-    ∙ row-pushed items 0 k s (omega arith)
+    ∙ row_pushed items 0 k s (omega arith)
     ∙ ap (λ r. r ++ wait s ∷ []) e
     ∙ ap (λ (u : Wait). pairs k v x ++ u ∷ []) w
     ∙ sym (pairs-last k v x)
     ∙ ap (λ n. pairs n v x) (sym (add-one k))
 
 -- a number by its fields, one more at the top
-pub number-push : (ds : List ℕ) (d : ℕ) → number (ds ++ d ∷ []) ≡ number ds + 2 ^ (4 * length ds) * d
+pub number_push : (ds : List ℕ) (d : ℕ) → number (ds ++ d ∷ []) ≡ number ds + 2 ^ (4 * length ds) * d
 unfolding number
-number-push [] d = omega arith
-number-push (e ∷ ds) d =
-    let i = number-push ds d in
+number_push [] d = omega arith
+number_push (e ∷ ds) d =
+    let i = number_push ds d in
     let n : 4 * suc (length ds) ≡ 4 * length ds + 4 = omega arith in
     let w : 2 ^ (4 * suc (length ds)) ≡ 2 ^ (4 * length ds) * 16 = ap (λ m. 2 ^ m) n ∙ pow-add 2 (4 * length ds) 4 in
     ap (λ z. e + 16 * z) i ∙ regroup e (number ds) (2 ^ (4 * length ds)) d ∙ ap (λ z. e + 16 * number ds + z * d) (sym w)
@@ -48,9 +42,9 @@ number-push (e ∷ ds) d =
     regroup a b p d = omega arith
 
 -- put in by a shift
-pub shifted-or : (k v d : ℕ) → k < 8 → v < 2 ^ (4 * k) → d < 16 → bitOr v (d * 2 ^ (4 * k) % 2 ^ 32) ≡ v + 2 ^ (4 * k) * d
+pub shifted-or : (k v d : ℕ) → k < 8 → v < 2 ^ (4 * k) → d < 16 → bit_or v (d * 2 ^ (4 * k) % 2 ^ 32) ≡ v + 2 ^ (4 * k) * d
 shifted-or k v d h b c =
-    ap (bitOr v) (shl-whole d 4 (4 * k) 32 c (omega arith)) ∙ or-shifted-r d (4 * k) v b ∙ regroup d (2 ^ (4 * k)) v
+    ap (bit_or v) (shl_whole d 4 (4 * k) 32 c (omega arith)) ∙ or_shifted_r d (4 * k) v b ∙ regroup d (2 ^ (4 * k)) v
   where
     regroup : (d p v : ℕ) → d * p + v ≡ v + p * d
     regroup d p v = omega arith
@@ -59,11 +53,11 @@ pub pushed-below : (k v d : ℕ) → v < 2 ^ (4 * k) → d < 16 → v + 2 ^ (4 *
 pushed-below k v d b c =
     let n : 4 * (k + 1) ≡ 4 * k + 4 = omega arith in
     let w : 2 ^ (4 * (k + 1)) ≡ 2 ^ (4 * k) * 16 = ap (λ m. 2 ^ m) n ∙ pow-add 2 (4 * k) 4 in
-    let l = mul-le-mul-left (2 ^ (4 * k)) (le-pred d c) in
+    let l = mul-le-mul_left (2 ^ (4 * k)) (le_pred d c) in
     omega arith
   where
-    le-pred : (d : ℕ) → d < 16 → d ≤ 15
-    le-pred d h = omega arith
+    le_pred : (d : ℕ) → d < 16 → d ≤ 15
+    le_pred d h = omega arith
 
 pub length-row : (items : List Store) (begin k : ℕ) → begin + k ≤ length items → length (row items begin k) ≡ k
 length-row items begin k h =
@@ -71,21 +65,21 @@ length-row items begin k h =
     length-map (take k (drop begin items)) wait ∙ length-take-le k (drop begin items) (omega arith)
 
 -- the parts of a thread's first word
-pub word-parts : (w v x : ℕ) (a : At) → Packs-at w v x a → (w / 65536 % 16 ≡ a .pc) × (w / 1048576 ≡ length (a .waits)) × (nibbles 4 w ≡ a .regs)
+pub word-parts : (w v x : ℕ) (a : At) → Packs-at w v x a → (w / 65536 % 16 ≡ a.pc) × (w / 1048576 ≡ length a.waits) × (nibbles 4 w ≡ a.regs)
 word-parts w v x a h =
-    let i = h .0 in
-    let few = i .few in
-    let held = i .held in
-    let e : first-word a ≡ w = let z = h .1 in cc in
-    let p : 16 ^ length (a .regs) ≡ 65536 = ap (λ n. 16 ^ n) (i .four) in
-    let r = number-below (a .regs) (i .regs) in
-    let g : first-word a ≡ number (a .regs) + 16 ^ 4 * (a .pc + 16 * length (a .waits)) = omega arith in (
+    let i = h.0 in
+    let few = i.few in
+    let held = i.held in
+    let e : first_word a ≡ w = let z = h.1 in cc in
+    let p : 16 ^ length a.regs ≡ 65536 = ap (λ n. 16 ^ n) i.four in
+    let r = number-below a.regs i.regs in
+    let g : first_word a ≡ number a.regs + 16 ^ 4 * (a.pc + 16 * length a.waits) = omega arith in (
       omega arith,
       omega arith,
       ap (nibbles 4) (sym e ∙ g)
-          ∙ nibbles-add 4 (number (a .regs)) (a .pc + 16 * length (a .waits))
-          ∙ ap (λ n. nibbles n (number (a .regs))) (sym (i .four))
-          ∙ nibbles-number (a .regs) (i .regs),
+          ∙ nibbles-add 4 (number a.regs) (a.pc + 16 * length a.waits)
+          ∙ ap (λ n. nibbles n (number a.regs)) (sym i.four)
+          ∙ nibbles-number a.regs i.regs,
     )
 
 pairs-packed : (ws : List Wait) → All-below 16 (values ws) → All-below 8 (places ws) → pairs (length ws) (number (values ws)) (number (places ws)) ≡ ws
@@ -94,41 +88,41 @@ pairs-packed [] h k = refl
 pairs-packed (w ∷ ws) h k =
     let n = number (values ws) in
     let m = number (places ws) in
-    let a = h .0 in
-    let b = k .0 in
-    let e1 : (w .place + 16 * m) % 16 % 8 ≡ w .place = omega arith in
-    let e2 : (w .val + 16 * n) % 16 ≡ w .val = omega arith in
-    let e3 : (w .val + 16 * n) / 16 ≡ n = omega arith in
-    let e4 : (w .place + 16 * m) / 16 ≡ m = omega arith in
-    let i = pairs-packed ws (h .1) (k .1) in
-    ap (λ z. record { place = (w .place + 16 * m) % 16 % 8; val = (w .val + 16 * n) % 16 } ∷ pairs (length ws) z ((w .place + 16 * m) / 16)) e3
-    ∙ ap (λ z. record { place = (w .place + 16 * m) % 16 % 8; val = (w .val + 16 * n) % 16 } ∷ pairs (length ws) n z) e4
-    ∙ ap (λ (z : List Wait). record { place = (w .place + 16 * m) % 16 % 8; val = (w .val + 16 * n) % 16 } ∷ z) i
-    ∙ ap (λ z. record { place = z; val = (w .val + 16 * n) % 16 } ∷ ws) e1
-    ∙ ap (λ z. record { place = w .place; val = z } ∷ ws) e2
+    let a = h.0 in
+    let b = k.0 in
+    let e1 : (w.place + 16 * m) % 16 % 8 ≡ w.place = omega arith in
+    let e2 : (w.val + 16 * n) % 16 ≡ w.val = omega arith in
+    let e3 : (w.val + 16 * n) / 16 ≡ n = omega arith in
+    let e4 : (w.place + 16 * m) / 16 ≡ m = omega arith in
+    let i = pairs-packed ws h.1 k.1 in
+    ap (λ z. record { place = (w.place + 16 * m) % 16 % 8; val = (w.val + 16 * n) % 16 } ∷ pairs (length ws) z ((w.place + 16 * m) / 16)) e3
+    ∙ ap (λ z. record { place = (w.place + 16 * m) % 16 % 8; val = (w.val + 16 * n) % 16 } ∷ pairs (length ws) n z) e4
+    ∙ ap (λ (z : List Wait). record { place = (w.place + 16 * m) % 16 % 8; val = (w.val + 16 * n) % 16 } ∷ z) i
+    ∙ ap (λ z. record { place = z; val = (w.val + 16 * n) % 16 } ∷ ws) e1
+    ∙ ap (λ z. record { place = w.place; val = z } ∷ ws) e2
 
 -- the words of a thread are that thread's alone
 pub unpacked : (w v x : ℕ) (a : At) → Packs-at w v x a → unpack-at w v x ≡ a
 unpacked w v x a h =
     let (e, f, g) = word-parts w v x a h in
-    let z = h .1 in
-    let ev : number (values (a .waits)) ≡ v = cc in
-    let ex : number (places (a .waits)) ≡ x = cc in
-    let r : pairs (w / 1048576) v x ≡ a .waits =
+    let z = h.1 in
+    let ev : number (values a.waits) ≡ v = cc in
+    let ex : number (places a.waits) ≡ x = cc in
+    let r : pairs (w / 1048576) v x ≡ a.waits =
     ap (λ n. pairs n v x) f
-    ∙ ap (λ n. pairs (length (a .waits)) n x) (sym ev)
-    ∙ ap (λ n. pairs (length (a .waits)) (number (values (a .waits))) n) (sym ex)
-    ∙ pairs-packed (a .waits) (h .0 .values) (h .0 .places) in
+    ∙ ap (λ n. pairs (length a.waits) n x) (sym ev)
+    ∙ ap (λ n. pairs (length a.waits) (number (values a.waits)) n) (sym ex)
+    ∙ pairs-packed a.waits h.0.values h.0.places in
     ap (λ n. record { pc = n; regs = nibbles 4 w; waits = pairs (w / 1048576) v x }) e
-    ∙ ap (λ rs. record { pc = a .pc; regs = rs; waits = pairs (w / 1048576) v x }) g
-    ∙ ap (λ ws. record { pc = a .pc; regs = a .regs; waits = ws }) r
+    ∙ ap (λ rs. record { pc = a.pc; regs = rs; waits = pairs (w / 1048576) v x }) g
+    ∙ ap (λ ws. record { pc = a.pc; regs = a.regs; waits = ws }) r
 
-pub low-registers : (w : ℕ) → nibbles 4 (bitAnd w 65535) ≡ nibbles 4 w
+pub low-registers : (w : ℕ) → nibbles 4 (bit_and w 65535) ≡ nibbles 4 w
 low-registers w =
-    let m : bitAnd w 65535 ≡ w % 65536 = and-mask w 16 in
+    let m : bit_and w 65535 ≡ w % 65536 = and_mask w 16 in
     let e : w % 65536 + 16 ^ 4 * (w / 65536) ≡ w = omega arith in
     ap (nibbles 4) m ∙ sym (nibbles-add 4 (w % 65536) (w / 65536)) ∙ ap (nibbles 4) e
 
 -- a thread by its parts
-pub same-at : (pc pc′ : ℕ) (rs rs′ : List ℕ) (ws ws′ : List Wait) → pc ≡ pc′ → rs ≡ rs′ → ws ≡ ws′ → _≡_ {A = At} (record { pc = pc; regs = rs; waits = ws }) (record { pc = pc′; regs = rs′; waits = ws′ })
-same-at pc pc′ rs rs′ ws ws′ e f g = cc
+pub same_at : (pc pc' : ℕ) (rs rs' : List ℕ) (ws ws' : List Wait) → pc ≡ pc' → rs ≡ rs' → ws ≡ ws' → ◌≡◌ {A = At} (record { pc = pc; regs = rs; waits = ws }) (record { pc = pc'; regs = rs'; waits = ws' })
+same_at pc pc' rs rs' ws ws' e f g = cc

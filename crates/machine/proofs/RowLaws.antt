@@ -1,52 +1,46 @@
 -- A row as part of an array: one store more, the oldest gone, and what is read store by store.
-use mathlib.Core.Path.{_≡_, refl, sym, ap, _∙_}
-use mathlib.Core.Logic.{_⊎_, inl, inr}
-use mathlib.Core.List.{List, [], _∷_, _++_, map}
-use Prim.Native.Nat.{ℕ, zero, suc, _+_, _-_, _<_, _≤_}
-use native.Mathlib.Omega.{arith}
-use lib.Dec.{eqb}
-use lib.ListN.{length, take, drop, getD, set}
-use Rattle·std.proofs.shelf.Lists.{getD-drop, getD-set-same, getD-set-other, length-drop, length-set, drop-more, drop-set-add, take-more, take-more-set, map-push}
-use Rattle·std.proofs.shelf.Tests.{cases-eq}
-use Rattle·model.specs.Code.{pick}
-use Rattle·model.specs.Machine.{Wait, newest}
-use Rattle·machine·specs.declared.stores.Store.{Store}
-use Rattle·machine·specs.Stores.{wait, row, AllSmall}
+use Rattle.std.proofs.Common.{◌≡◌, ℕ, zero, suc, ◌+◌, ◌-◌, ◌<◌, ◌≤◌, eqb, ◌⊎◌, List, [], ◌∷◌, ◌++◌, map, length, get_or, take, drop, set, sym, refl, ap, ◌∙◌, inl, inr, arith}
+use Rattle.std.proofs.lemmas.List.{get_or-drop, get_or-set_same, get_or-set_other, length-drop, length-set, drop_more, drop-set-add, take_more, take_more_set, map_push}
+use Rattle.std.proofs.lemmas.Bool.{cases_eq}
+use Rattle.model.specs.Code.{pick}
+use Rattle.model.specs.Machine.{Wait, newest}
+use Rattle.machine.specs.declared.stores.Store.{Store}
+use Rattle.machine.specs.Stores.{wait, row, AllSmall}
 
 newest-push : (ws : List Wait) (w : Wait) (x v : ℕ) → newest (ws ++ w ∷ []) x v ≡ newest (w ∷ []) x (newest ws x v)
 newest-push [] w x v = refl
-newest-push (u ∷ ws) w x v = newest-push ws w x (pick (eqb (u .place) x) (u .val) v)
+newest-push (u ∷ ws) w x v = newest-push ws w x (pick (eqb u.place x) u.val v)
 
-pub row-last : (items : List Store) (begin k : ℕ) (s : Store) → begin + k < length items → row items begin (k + 1) ≡ row items begin k ++ wait (getD items (begin + k) s) ∷ []
-row-last items begin k s h =
+pub row_last : (items : List Store) (begin k : ℕ) (s : Store) → begin + k < length items → row items begin (k + 1) ≡ row items begin k ++ wait (get_or items (begin + k) s) ∷ []
+row_last items begin k s h =
     let l = length-drop begin items in
-    ap (map wait) (take-more (drop begin items) k s (omega arith) ∙ ap (λ (z : Store). take k (drop begin items) ++ z ∷ []) (getD-drop begin items k s))
-    ∙ map-push wait (take k (drop begin items)) (getD items (begin + k) s)
+    ap (map wait) (take_more (drop begin items) k s (omega arith) ∙ ap (λ (z : Store). take k (drop begin items) ++ z ∷ []) (get_or-drop begin items k s))
+    ∙ map_push wait (take k (drop begin items)) (get_or items (begin + k) s)
 
 -- one store more is read
-pub newest-more : (items : List Store) (begin k : ℕ) (s : Store) (x m v : ℕ) → begin + k < length items → v ≡ newest (row items begin k) x m → newest (wait (getD items (begin + k) s) ∷ []) x v ≡ newest (row items begin (k + 1)) x m
+pub newest-more : (items : List Store) (begin k : ℕ) (s : Store) (x m v : ℕ) → begin + k < length items → v ≡ newest (row items begin k) x m → newest (wait (get_or items (begin + k) s) ∷ []) x v ≡ newest (row items begin (k + 1)) x m
 newest-more items begin k s x m v h e =
-    ap (newest (wait (getD items (begin + k) s) ∷ []) x) e
-    ∙ sym (ap (λ ws. newest ws x m) (row-last items begin k s h) ∙ newest-push (row items begin k) (wait (getD items (begin + k) s)) x m)
+    ap (newest (wait (get_or items (begin + k) s) ∷ []) x) e
+    ∙ sym (ap (λ ws. newest ws x m) (row_last items begin k s h) ∙ newest-push (row items begin k) (wait (get_or items (begin + k) s)) x m)
 
-pub row-pushed : (items : List Store) (begin len : ℕ) (s : Store) → begin + len < length items → row (set items (begin + len) s) begin (len + 1) ≡ row items begin len ++ wait s ∷ []
-row-pushed items begin len s h =
+pub row_pushed : (items : List Store) (begin len : ℕ) (s : Store) → begin + len < length items → row (set items (begin + len) s) begin (len + 1) ≡ row items begin len ++ wait s ∷ []
+row_pushed items begin len s h =
     let l = length-drop begin items in
     ap (λ xs. map wait (take (len + 1) xs)) (drop-set-add begin items len s)
-    ∙ ap (map wait) (take-more-set (drop begin items) len s (omega arith))
-    ∙ map-push wait (take len (drop begin items)) s
+    ∙ ap (map wait) (take_more_set (drop begin items) len s (omega arith))
+    ∙ map_push wait (take len (drop begin items)) s
 
-pub small-set : (items : List Store) (i : ℕ) (s : Store) → s .place .0 < 8 → s .value < 16 → AllSmall items → AllSmall (set items i s)
+pub small-set : (items : List Store) (i : ℕ) (s : Store) → s.place.0 < 8 → s.value < 16 → AllSmall items → AllSmall (set items i s)
 small-set items i s hp hv small k d h =
     let l = length-set items i s in
-    elim (cases-eq k i) [
+    elim (cases_eq k i) [
       | inl e ↦
-          let g : getD (set items i s) k d ≡ s = ap (λ j. getD (set items i s) j d) e ∙ getD-set-same items i s d (omega arith) in
-          (subst-lt (ap (λ (z : Store). z .place .0) g) hp, subst-lt (ap (λ (z : Store). z .value) g) hv)
+          let g : get_or (set items i s) k d ≡ s = ap (λ j. get_or (set items i s) j d) e ∙ get_or-set_same items i s d (omega arith) in
+          (subst-lt (ap (λ (z : Store). z.place.0) g) hp, subst-lt (ap (λ (z : Store). z.value) g) hv)
       | inr ne ↦
-          let g : getD (set items i s) k d ≡ getD items k d = getD-set-other items i k s d ne in
+          let g : get_or (set items i s) k d ≡ get_or items k d = get_or-set_other items i k s d ne in
           let r = small k d (omega arith) in
-          (subst-lt (ap (λ (z : Store). z .place .0) g) (r .0), subst-lt (ap (λ (z : Store). z .value) g) (r .1))
+          (subst-lt (ap (λ (z : Store). z.place.0) g) r.0, subst-lt (ap (λ (z : Store). z.value) g) r.1)
     ]
   where
     subst-lt : {a b n : ℕ} → a ≡ b → b < n → a < n

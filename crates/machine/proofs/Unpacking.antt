@@ -1,42 +1,38 @@
 -- The words of a state give it back: no other state has them, and it has no other words. The words of the state where
 -- every run begins are all 0.
-use mathlib.Core.Path.{_≡_, refl, sym, ap, _∙_}
-use mathlib.Core.List.{List, [], _∷_}
-use Prim.Native.Nat.{ℕ, zero, suc, _+_, _*_, _<_}
-use native.Mathlib.Omega.{arith}
-use lib.ListN.{length, replicate}
-use Rattle·lent.specs.Nibbles.{number, All-below}
-use Rattle·model.specs.Code.{Prog}
-use Rattle·model.specs.Machine.{At, St, starts, begin}
-use Rattle·machine·specs.Packed.{first-word, values, places, pack-ts, pack, unpack-ts, unpack, Within-ts, Packs}
-use Rattle·machine·proofs.PackLaws.{unpacked}
-use Rattle·machine·proofs.StateLaws.{same-count}
-use Rattle·machine·proofs.MoveLaws.{memory-is}
+use Rattle.std.proofs.Common.{◌≡◌, ℕ, zero, suc, ◌+◌, ◌*◌, ◌<◌, List, [], ◌∷◌, length, replicate, sym, refl, ap, ◌∙◌, arith}
+use Rattle.lent.specs.Nibbles.{number, All-below}
+use Rattle.model.specs.Code.{Prog}
+use Rattle.model.specs.Machine.{At, St, starts, begin}
+use Rattle.machine.specs.Packed.{first_word, values, places, pack-ts, pack, unpack-ts, unpack, Within-ts, Packs}
+use Rattle.machine.proofs.PackLaws.{unpacked}
+use Rattle.machine.proofs.StateLaws.{same_count}
+use Rattle.machine.proofs.MoveLaws.{memory-is}
 
 -- There and back
 
 threads-back : (as₁ : List At) → Within-ts as₁ → unpack-ts (length as₁) (pack-ts as₁) ≡ as₁
 threads-back [] h = refl
 threads-back (a ∷ as₁) h =
-    let w = first-word a in
-    let v = number (values (a .waits)) in
-    let x = number (places (a .waits)) in
-    ap (λ (z : At). z ∷ unpack-ts (length as₁) (pack-ts as₁)) (unpacked w v x a (h .0, refl)) ∙ ap (λ (z : List At). a ∷ z) (threads-back as₁ (h .1))
+    let w = first_word a in
+    let v = number (values a.waits) in
+    let x = number (places a.waits) in
+    ap (λ (z : At). z ∷ unpack-ts (length as₁) (pack-ts as₁)) (unpacked w v x a (h.0, refl)) ∙ ap (λ (z : List At). a ∷ z) (threads-back as₁ h.1)
 
-pub unpack-packs : (ws : List ℕ) (s : St) → Packs ws s → unpack (length (s .threads)) ws ≡ s
+pub unpack-packs : (ws : List ℕ) (s : St) → Packs ws s → unpack (length s.threads) ws ≡ s
 unfolding pack unpack
 unpack-packs ws s h =
-    ap (unpack (length (s .threads))) (sym (h .1))
-    ∙ ap (λ (z : List ℕ). record { mem = z; threads = unpack-ts (length (s .threads)) (pack-ts (s .threads)) }) (memory-is (pack s) s (h .0, refl))
-    ∙ ap (λ (z : List At). record { mem = s .mem; threads = z }) (threads-back (s .threads) (h .0 .each))
+    ap (unpack (length s.threads)) (sym h.1)
+    ∙ ap (λ (z : List ℕ). record { mem = z; threads = unpack-ts (length s.threads) (pack-ts s.threads) }) (memory-is (pack s) s (h.0, refl))
+    ∙ ap (λ (z : List At). record { mem = s.mem; threads = z }) (threads-back s.threads h.0.each)
 
 -- one state for the words
-pub pack-one : (ws : List ℕ) (s t : St) → Packs ws s → Packs ws t → s ≡ t
-pack-one ws s t h k = sym (unpack-packs ws s h) ∙ ap (λ n. unpack n ws) (same-count ws s t h k) ∙ unpack-packs ws t k
+pub pack_one : (ws : List ℕ) (s t : St) → Packs ws s → Packs ws t → s ≡ t
+pack_one ws s t h k = sym (unpack-packs ws s h) ∙ ap (λ n. unpack n ws) (same_count ws s t h k) ∙ unpack-packs ws t k
 
 -- one list of words for the state
 pub words-one : (ws us : List ℕ) (s : St) → Packs ws s → Packs us s → ws ≡ us
-words-one ws us s h k = sym (h .1) ∙ k .1
+words-one ws us s h k = sym h.1 ∙ k.1
 
 -- Where every run begins
 

@@ -1,96 +1,90 @@
 -- What a move makes of a thread's three words is the words of the thread that the move makes: a register written, a store
 -- pushed by a shift up, the oldest store gone by a shift down.
-use mathlib.Core.Path.{_≡_, refl, sym, ap, subst, _∙_}
-use mathlib.Core.Bool.{false}
-use mathlib.Core.List.{List, [], _∷_, _++_, map}
-use Prim.Native.Nat.{ℕ, zero, suc, _+_, _*_, _-_, _/_, _%_, _^_, _<_, _≤_}
-use native.Mathlib.Nat.{pow-suc}
-use native.Mathlib.Omega.{arith}
-use lib.Bits.{bitAnd, bitOr}
-use lib.ListN.{length, getD, length-append}
-use Rattle·std.proofs.shelf.Bits.{and-mask, pow-add}
-use Rattle·std.proofs.shelf.Lists.{length-map, map-push}
-use Rattle·lent.specs.Nibbles.{nibbles, number, All-below}
-use Rattle·lent.proofs.Fields.{nibbles-number, number-nibbles, number-below, nibbles-below, length-nibbles}
-use Rattle·model.specs.Code.{opt, nth}
-use Rattle·model.specs.Machine.{At, Wait, done, empty, reg}
-use Rattle·machine·specs.declared.triples.ThreadWords.{ThreadWords}
-use Rattle·machine·specs.Effects.{Words-at, Standing}
-use Rattle·machine·specs.Packed.{values, places, pairs, first-word, Within-at, Packs-at}
-use Rattle·machine·proofs.Did.{field-read}
-use Rattle·machine·proofs.PackLaws.{number-push, shifted-or, word-parts, unpacked}
+use Rattle.std.proofs.Common.{◌≡◌, ℕ, zero, suc, ◌+◌, ◌-◌, ◌*◌, ◌/◌, ◌%◌, ◌^◌, ◌<◌, ◌≤◌, false, List, [], ◌∷◌, ◌++◌, map, length, get_or, sym, refl, ap, ◌∙◌, subst, pow-suc, arith, length-append}
+use lib.Bits.{bit_and, bit_or}
+use Rattle.std.proofs.lemmas.Nat.{and_mask, pow-add}
+use Rattle.std.proofs.lemmas.List.{length-map, map_push}
+use Rattle.lent.specs.Nibbles.{nibbles, number, All-below}
+use Rattle.lent.proofs.Fields.{nibbles-number, number-nibbles, number-below, nibbles-below, length-nibbles}
+use Rattle.model.specs.Code.{opt, nth}
+use Rattle.model.specs.Machine.{At, Wait, done, empty, reg}
+use Rattle.machine.specs.declared.triples.ThreadWords.{ThreadWords}
+use Rattle.machine.specs.Effects.{Words-at, Standing}
+use Rattle.machine.specs.Packed.{values, places, pairs, first_word, Within-at, Packs-at}
+use Rattle.machine.proofs.Did.{field-read}
+use Rattle.machine.proofs.PackLaws.{number_push, shifted-or, word-parts, unpacked}
 
 -- the parts of the three words
-first-is : (w v x : ℕ) (a : At) → Packs-at w v x a → first-word a ≡ w
-first-is w v x a h = let z = h .1 in cc
+first-is : (w v x : ℕ) (a : At) → Packs-at w v x a → first_word a ≡ w
+first-is w v x a h = let z = h.1 in cc
 
-values-is : (w v x : ℕ) (a : At) → Packs-at w v x a → number (values (a .waits)) ≡ v
-values-is w v x a h = let z = h .1 in cc
+values-is : (w v x : ℕ) (a : At) → Packs-at w v x a → number (values a.waits) ≡ v
+values-is w v x a h = let z = h.1 in cc
 
-places-is : (w v x : ℕ) (a : At) → Packs-at w v x a → number (places (a .waits)) ≡ x
-places-is w v x a h = let z = h .1 in cc
+places_is : (w v x : ℕ) (a : At) → Packs-at w v x a → number (places a.waits) ≡ x
+places_is w v x a h = let z = h.1 in cc
 
-three : (a b c a′ b′ c′ : ℕ) → a ≡ a′ → b ≡ b′ → c ≡ c′ → a ∷ b ∷ c ∷ [] ≡ a′ ∷ b′ ∷ c′ ∷ []
-three a b c a′ b′ c′ e f g = cc
+three : (a b c a' b' c' : ℕ) → a ≡ a' → b ≡ b' → c ≡ c' → a ∷ b ∷ c ∷ [] ≡ a' ∷ b' ∷ c' ∷ []
+three a b c a' b' c' e f g = cc
 
-registers-below : (a : At) → Within-at a → number (a .regs) < 65536
+registers-below : (a : At) → Within-at a → number a.regs < 65536
 registers-below a i =
-    let p : 16 ^ length (a .regs) ≡ 65536 = ap (λ n. 16 ^ n) (i .four) in
-    let r = number-below (a .regs) (i .regs) in
+    let p : 16 ^ length a.regs ≡ 65536 = ap (λ n. 16 ^ n) i.four in
+    let r = number-below a.regs i.regs in
     omega arith
 
 -- the registers are the low half of the first word
-pub low-half : (w v x : ℕ) (a : At) → Packs-at w v x a → (bitAnd w 65535 ≡ number (a .regs)) × (nibbles 4 (bitAnd w 65535) ≡ a .regs) × (w < 2 ^ 25)
-low-half w v x a h =
+pub low_half : (w v x : ℕ) (a : At) → Packs-at w v x a → (bit_and w 65535 ≡ number a.regs) × (nibbles 4 (bit_and w 65535) ≡ a.regs) × (w < 2 ^ 25)
+low_half w v x a h =
     let e = first-is w v x a h in
-    let r = registers-below a (h .0) in
-    let few = h .0 .few in
-    let held = h .0 .held in
-    let m : bitAnd w 65535 ≡ w % 65536 = and-mask w 16 in
-    let low : bitAnd w 65535 ≡ number (a .regs) = omega arith in
-    (low, ap (nibbles 4) low ∙ ap (λ n. nibbles n (number (a .regs))) (sym (h .0 .four)) ∙ nibbles-number (a .regs) (h .0 .regs), omega arith)
+    let r = registers-below a h.0 in
+    let few = h.0.few in
+    let held = h.0.held in
+    let m : bit_and w 65535 ≡ w % 65536 = and_mask w 16 in
+    let low : bit_and w 65535 ≡ number a.regs = omega arith in
+    (low, ap (nibbles 4) low ∙ ap (λ n. nibbles n (number a.regs)) (sym h.0.four) ∙ nibbles-number a.regs h.0.regs, omega arith)
 
 -- the first word is small
 pub first-few : (w v x : ℕ) (a : At) → Packs-at w v x a → w < 2 ^ 25
-first-few w v x a h = low-half w v x a h .2
+first-few w v x a h = (low_half w v x a h).2
 
 -- a thread with other registers, one instruction further
-pub register-packs : (w v x : ℕ) (a : At) (rs : List ℕ) (regs : ℕ) → Packs-at w v x a → a .pc < 8 → nibbles 4 regs ≡ rs → regs < 16 ^ 4 → Packs-at (w - bitAnd w 65535 + 65536 + regs) v x (done a rs (a .waits))
+pub register-packs : (w v x : ℕ) (a : At) (rs : List ℕ) (regs : ℕ) → Packs-at w v x a → a.pc < 8 → nibbles 4 regs ≡ rs → regs < 16 ^ 4 → Packs-at (w - bit_and w 65535 + 65536 + regs) v x (done a rs a.waits)
 register-packs w v x a rs regs h pc e b =
-    let i = h .0 in
-    let held = i .held in
+    let i = h.0 in
+    let held = i.held in
     let f = first-is w v x a h in
-    let (low, r, few) = low-half w v x a h in
+    let (low, r, few) = low_half w v x a h in
     let n : number rs ≡ regs = ap number (sym e) ∙ number-nibbles 4 regs b in (
       record {
         four = ap length (sym e) ∙ length-nibbles 4 regs;
         regs = subst (All-below 16) e (nibbles-below 4 regs);
         few = omega arith;
         held = omega arith;
-        values = i .values;
-        places = i .places;
+        values = i.values;
+        places = i.places;
       },
-      three _ _ _ _ _ _ (omega arith) (values-is w v x a h) (places-is w v x a h),
+      three _ _ _ _ _ _ (omega arith) (values-is w v x a h) (places_is w v x a h),
     )
 
 -- one instruction further, and nothing else
-pub passed-packs : (w v x : ℕ) (a : At) → Packs-at w v x a → a .pc < 8 → Packs-at (w + 65536) v x (done a (a .regs) (a .waits))
+pub passed-packs : (w v x : ℕ) (a : At) → Packs-at w v x a → a.pc < 8 → Packs-at (w + 65536) v x (done a a.regs a.waits)
 passed-packs w v x a h pc =
-    let i = h .0 in
-    let held = i .held in
+    let i = h.0 in
+    let held = i.held in
     let f = first-is w v x a h in (
-      record { four = i .four; regs = i .regs; few = omega arith; held = omega arith; values = i .values; places = i .places },
-      three _ _ _ _ _ _ (omega arith) (values-is w v x a h) (places-is w v x a h),
+      record { four = i.four; regs = i.regs; few = omega arith; held = omega arith; values = i.values; places = i.places },
+      three _ _ _ _ _ _ (omega arith) (values-is w v x a h) (places_is w v x a h),
     )
 
 -- one store more
 below-push : (n : ℕ) (ds : List ℕ) (d : ℕ) → All-below n ds → d < n → All-below n (ds ++ d ∷ [])
 below-push n [] d h k = (k, tt)
-below-push n (e ∷ ds) d h k = (h .0, below-push n ds d (h .1) k)
+below-push n (e ∷ ds) d h k = (h.0, below-push n ds d h.1 k)
 
-below-more : (ds : List ℕ) → All-below 8 ds → All-below 16 ds
-below-more [] h = tt
-below-more (d ∷ ds) h = let k = h .0 in (omega arith, below-more ds (h .1))
+below_more : (ds : List ℕ) → All-below 8 ds → All-below 16 ds
+below_more [] h = tt
+below_more (d ∷ ds) h = let k = h.0 in (omega arith, below_more ds h.1)
 
 sixteen-pow : (k : ℕ) → 16 ^ k ≡ 2 ^ (4 * k)
 sixteen-pow zero = refl
@@ -108,81 +102,81 @@ digits-below ds k e h =
     omega arith
 
 -- a number by its digits, one more at the top put in by a shift
-pushed-digit : (f : Wait → ℕ) (ws : List Wait) (w : Wait) (v k : ℕ) → length ws ≡ k → k < 8 → All-below 16 (map f ws) → f w < 16 → number (map f ws) ≡ v → number (map f (ws ++ w ∷ [])) ≡ bitOr v (f w * 2 ^ (4 * k) % 2 ^ 32)
+pushed-digit : (f : Wait → ℕ) (ws : List Wait) (w : Wait) (v k : ℕ) → length ws ≡ k → k < 8 → All-below 16 (map f ws) → f w < 16 → number (map f ws) ≡ v → number (map f (ws ++ w ∷ [])) ≡ bit_or v (f w * 2 ^ (4 * k) % 2 ^ 32)
 pushed-digit f ws w v k l few below small e =
     let ds = map f ws in
     let len : length ds ≡ k = length-map ws f ∙ l in
     let b : v < 2 ^ (4 * k) = subst (λ z. z < 2 ^ (4 * k)) e (digits-below ds k len below) in
-    ap number (map-push f ws w) ∙ number-push ds (f w) ∙ ap (λ n. number ds + 2 ^ (4 * n) * f w) len ∙ ap (λ z. z + 2 ^ (4 * k) * f w) e ∙ sym (shifted-or k v (f w) few b small)
+    ap number (map_push f ws w) ∙ number_push ds (f w) ∙ ap (λ n. number ds + 2 ^ (4 * n) * f w) len ∙ ap (λ z. z + 2 ^ (4 * k) * f w) e ∙ sym (shifted-or k v (f w) few b small)
 
-pub pushed-packs : (w v x : ℕ) (a : At) (s : Wait) (k : ℕ) → Packs-at w v x a → a .pc < 8 → s .place < 8 → s .val < 16 → k ≡ length (a .waits) → Packs-at (w + 1114112) (bitOr v (s .val * 2 ^ (4 * k) % 2 ^ 32)) (bitOr x (s .place * 2 ^ (4 * k) % 2 ^ 32)) (done a (a .regs) (a .waits ++ s ∷ []))
+pub pushed-packs : (w v x : ℕ) (a : At) (s : Wait) (k : ℕ) → Packs-at w v x a → a.pc < 8 → s.place < 8 → s.val < 16 → k ≡ length a.waits → Packs-at (w + 1114112) (bit_or v (s.val * 2 ^ (4 * k) % 2 ^ 32)) (bit_or x (s.place * 2 ^ (4 * k) % 2 ^ 32)) (done a a.regs (a.waits ++ s ∷ []))
 pushed-packs w v x a s k h pc p q l =
-    let i = h .0 in
-    let held = i .held in
+    let i = h.0 in
+    let held = i.held in
     let f = first-is w v x a h in
-    let more = length-append (a .waits) (s ∷ []) in
+    let more = length-append a.waits (s ∷ []) in
     let few : k < 8 = omega arith in (
       record {
-        four = i .four;
-        regs = i .regs;
+        four = i.four;
+        regs = i.regs;
         few = omega arith;
         held = omega arith;
-        values = subst (All-below 16) (sym (map-push (λ (u : Wait). u .val) (a .waits) s)) (below-push 16 (values (a .waits)) (s .val) (i .values) q);
-        places = subst (All-below 8) (sym (map-push (λ (u : Wait). u .place) (a .waits) s)) (below-push 8 (places (a .waits)) (s .place) (i .places) p);
+        values = subst (All-below 16) (sym (map_push (λ (u : Wait). u.val) a.waits s)) (below-push 16 (values a.waits) s.val i.values q);
+        places = subst (All-below 8) (sym (map_push (λ (u : Wait). u.place) a.waits s)) (below-push 8 (places a.waits) s.place i.places p);
       },
       three _ _ _ _ _ _ (omega arith)
-          (pushed-digit (λ (u : Wait). u .val) (a .waits) s v k (sym l) few (i .values) q (values-is w v x a h))
-          (pushed-digit (λ (u : Wait). u .place) (a .waits) s x k (sym l) few (below-more (places (a .waits)) (i .places)) (omega arith) (places-is w v x a h)),
+          (pushed-digit (λ (u : Wait). u.val) a.waits s v k (sym l) few i.values q (values-is w v x a h))
+          (pushed-digit (λ (u : Wait). u.place) a.waits s x k (sym l) few (below_more (places a.waits) i.places) (omega arith) (places_is w v x a h)),
     )
 
 -- the oldest store gone
-pub rest-packs : (w v x : ℕ) (a : At) (s : Wait) (ws : List Wait) → Packs-at w v x a → a .waits ≡ s ∷ ws → Packs-at (w - 1048576) (v / 16) (x / 16) (record { pc = a .pc; regs = a .regs; waits = ws })
+pub rest-packs : (w v x : ℕ) (a : At) (s : Wait) (ws : List Wait) → Packs-at w v x a → a.waits ≡ s ∷ ws → Packs-at (w - 1048576) (v / 16) (x / 16) (record { pc = a.pc; regs = a.regs; waits = ws })
 unfolding number
 rest-packs w v x a s ws h e =
-    let i = h .0 in
-    let held = i .held in
+    let i = h.0 in
+    let held = i.held in
     let f = first-is w v x a h in
-    let l : length (a .waits) ≡ suc (length ws) = ap length e in
-    let hv : All-below 16 (values (s ∷ ws)) = subst (λ (z : List Wait). All-below 16 (values z)) e (i .values) in
-    let hx : All-below 8 (places (s ∷ ws)) = subst (λ (z : List Wait). All-below 8 (places z)) e (i .places) in
-    let ev : s .val + 16 * number (values ws) ≡ v = ap (λ (z : List Wait). number (values z)) (sym e) ∙ values-is w v x a h in
-    let ex : s .place + 16 * number (places ws) ≡ x = ap (λ (z : List Wait). number (places z)) (sym e) ∙ places-is w v x a h in
-    let sv = hv .0 in
-    let sx = hx .0 in (
-      record { four = i .four; regs = i .regs; few = i .few; held = omega arith; values = hv .1; places = hx .1 },
+    let l : length a.waits ≡ suc (length ws) = ap length e in
+    let hv : All-below 16 (values (s ∷ ws)) = subst (λ (z : List Wait). All-below 16 (values z)) e i.values in
+    let hx : All-below 8 (places (s ∷ ws)) = subst (λ (z : List Wait). All-below 8 (places z)) e i.places in
+    let ev : s.val + 16 * number (values ws) ≡ v = ap (λ (z : List Wait). number (values z)) (sym e) ∙ values-is w v x a h in
+    let ex : s.place + 16 * number (places ws) ≡ x = ap (λ (z : List Wait). number (places z)) (sym e) ∙ places_is w v x a h in
+    let sv = hv.0 in
+    let sx = hx.0 in (
+      record { four = i.four; regs = i.regs; few = i.few; held = omega arith; values = hv.1; places = hx.1 },
       three _ _ _ _ _ _ (omega arith) (omega arith) (omega arith),
     )
 
 -- and what it was
-pub oldest-is : (w v x : ℕ) (a : At) (s : Wait) (ws : List Wait) → Packs-at w v x a → a .waits ≡ s ∷ ws → (bitAnd x 7 ≡ s .place) × (bitAnd v 15 ≡ s .val)
+pub oldest-is : (w v x : ℕ) (a : At) (s : Wait) (ws : List Wait) → Packs-at w v x a → a.waits ≡ s ∷ ws → (bit_and x 7 ≡ s.place) × (bit_and v 15 ≡ s.val)
 unfolding number
 oldest-is w v x a s ws h e =
-    let hv : All-below 16 (values (s ∷ ws)) = subst (λ (z : List Wait). All-below 16 (values z)) e (h .0 .values) in
-    let hx : All-below 8 (places (s ∷ ws)) = subst (λ (z : List Wait). All-below 8 (places z)) e (h .0 .places) in
-    let ev : s .val + 16 * number (values ws) ≡ v = ap (λ (z : List Wait). number (values z)) (sym e) ∙ values-is w v x a h in
-    let ex : s .place + 16 * number (places ws) ≡ x = ap (λ (z : List Wait). number (places z)) (sym e) ∙ places-is w v x a h in
-    let mx = and-mask x 3 in
-    let mv = and-mask v 4 in
-    let sv = hv .0 in
-    let sx = hx .0 in
+    let hv : All-below 16 (values (s ∷ ws)) = subst (λ (z : List Wait). All-below 16 (values z)) e h.0.values in
+    let hx : All-below 8 (places (s ∷ ws)) = subst (λ (z : List Wait). All-below 8 (places z)) e h.0.places in
+    let ev : s.val + 16 * number (values ws) ≡ v = ap (λ (z : List Wait). number (values z)) (sym e) ∙ values-is w v x a h in
+    let ex : s.place + 16 * number (places ws) ≡ x = ap (λ (z : List Wait). number (places z)) (sym e) ∙ places_is w v x a h in
+    let mx = and_mask x 3 in
+    let mv = and_mask v 4 in
+    let sv = hv.0 in
+    let sx = hx.0 in
     (omega arith, omega arith)
 
-pub same-wait : (p v : ℕ) (w : Wait) → p ≡ w .place → v ≡ w .val → record { place = p; val = v } ≡ w
-same-wait p v w e f = ap (λ z. record { place = z; val = v }) e ∙ ap (λ z. record { place = w .place; val = z }) f
+pub same-wait : (p v : ℕ) (w : Wait) → p ≡ w.place → v ≡ w.val → record { place = p; val = v } ≡ w
+same-wait p v w e f = ap (λ z. record { place = z; val = v }) e ∙ ap (λ z. record { place = w.place; val = z }) f
 
 -- the thread is the words' alone
-pub still-standing : (t : ThreadWords) → Standing t → (a : At) → Words-at t a → a .pc < 8
+pub still-standing : (t : ThreadWords) → Standing t → (a : At) → Words-at t a → a.pc < 8
 still-standing t (b, k, pc) a h =
-    let e = ap (λ (z : At). z .pc) (sym (unpacked (t .first) (t .values) (t .places) a h) ∙ unpacked (t .first) (t .values) (t .places) b k) in
+    let e = ap (λ (z : At). z.pc) (sym (unpacked t.first t.values t.places a h) ∙ unpacked t.first t.values t.places b k) in
     omega arith
 
 -- a register read off the first word
-pub register-read : (t : ThreadWords) (a : At) (r v : ℕ) → Words-at t a → v ≡ getD (nibbles 4 (t .first)) r 0 → v ≡ reg a r
-register-read t a r v h e = field-read 4 (t .first) r v e ∙ ap (λ (rs : List ℕ). opt (nth rs r) 0 (λ x. x)) (word-parts (t .first) (t .values) (t .places) a h .2)
+pub register-read : (t : ThreadWords) (a : At) (r v : ℕ) → Words-at t a → v ≡ get_or (nibbles 4 t.first) r 0 → v ≡ reg a r
+register-read t a r v h e = field-read 4 t.first r v e ∙ ap (λ (rs : List ℕ). opt (nth rs r) 0 (λ x. x)) (word-parts t.first t.values t.places a h).2
 
 -- the row that the words are
-pub row-is : (w v x : ℕ) (a : At) → Packs-at w v x a → pairs (w / 1048576) v x ≡ a .waits
-row-is w v x a h = ap (λ (z : At). z .waits) (unpacked w v x a h)
+pub row_is : (w v x : ℕ) (a : At) → Packs-at w v x a → pairs (w / 1048576) v x ≡ a.waits
+row_is w v x a h = ap (λ (z : At). z.waits) (unpacked w v x a h)
 
 -- a row of no store
 pub no-waits : (ws : List Wait) → length ws ≡ 0 → ws ≡ []
@@ -193,6 +187,6 @@ pub some-waits : (ws : List Wait) → (length ws ≡ 0 → ⊥) → empty ws ≡
 some-waits [] h = absurd (h refl)
 some-waits (w ∷ ws) h = refl
 
-pub first-of : (ws : List Wait) → (length ws ≡ 0 → ⊥) → (w : Wait) × (us : List Wait) × (ws ≡ w ∷ us)
-first-of [] h = absurd (h refl)
-first-of (w ∷ ws) h = (w, ws, refl)
+pub first_of : (ws : List Wait) → (length ws ≡ 0 → ⊥) → (w : Wait) × (us : List Wait) × (ws ≡ w ∷ us)
+first_of [] h = absurd (h refl)
+first_of (w ∷ ws) h = (w, ws, refl)

@@ -1,27 +1,22 @@
 -- What the three words of a thread mean, and what a move of the thread makes of them.
-use mathlib.Core.Path.{_≡_}
-use mathlib.Core.List.{List}
-use mathlib.Core.Option.{some, none}
-use Prim.Native.Nat.{ℕ, _+_, _*_, _<_}
-use lib.ListN.{getD, set}
-use Rattle·std.specs.declared.option.Option.{Option}
-use Rattle·std.specs.declared.option.Option.the-variants.{Some, None}
-use Rattle·model.specs.Code.{I}
-use Rattle·model.specs.Machine.{At, does}
-use Rattle·machine·specs.declared.triples.ThreadWords.{ThreadWords}
-use Rattle·machine·specs.Packed.{Packs-at}
+use Rattle.std.specs.Prelude.{◌≡◌, ℕ, ◌+◌, ◌*◌, ◌<◌, List, Some, None, Option, slice_index, slice_set}
+use Rattle.std.proofs.Math.Option.{some, none}
+use Rattle.model.specs.Code.{I}
+use Rattle.model.specs.Machine.{At, does}
+use Rattle.machine.specs.declared.triples.ThreadWords.{ThreadWords}
+use Rattle.machine.specs.Packed.{Packs-at}
 
 -- the words are the thread a
 abbrev pub Words-at : ThreadWords → At → Type 0
-Words-at t a = Packs-at (t .first) (t .values) (t .places) a
+Words-at t a = Packs-at t.first t.values t.places a
 
 -- they are a thread that is not behind an eighth instruction
 abbrev pub Standing : ThreadWords → Type 0
-Standing t = (a : At) × Words-at t a × (a .pc < 8)
+Standing t = (a : At) × Words-at t a × (a.pc < 8)
 
 -- the thread that they are becomes another
 abbrev pub Becomes : ThreadWords → (At → At) → ThreadWords → Type 0
-Becomes t f u = (a : At) → Words-at t a → a .pc < 8 → Words-at u (f a)
+Becomes t f u = (a : At) → Words-at t a → a.pc < 8 → Words-at u (f a)
 
 -- the instruction i, done by the thread where memory is m
 abbrev pub Did : List ℕ → ThreadWords → I → Option ThreadWords → Type 0
@@ -30,7 +25,7 @@ Did m t i None = (a : At) → Words-at t a → does m a i ≡ none
 
 -- the words of thread n of a state, and a state with other words for it
 abbrev pub thread-words : List ℕ → ℕ → ThreadWords
-thread-words ws n = record { first = getD ws (1 + 3 * n) 0; values = getD ws (2 + 3 * n) 0; places = getD ws (3 + 3 * n) 0 }
+thread-words ws n = record { first = slice_index ws (1 + 3 * n); values = slice_index ws (2 + 3 * n); places = slice_index ws (3 + 3 * n) }
 
 abbrev pub with-words : List ℕ → ℕ → ThreadWords → List ℕ
-with-words ws n t = set (set (set ws (1 + 3 * n) (t .first)) (2 + 3 * n) (t .values)) (3 + 3 * n) (t .places)
+with-words ws n t = slice_set (slice_set (slice_set ws (1 + 3 * n) t.first) (2 + 3 * n) t.values) (3 + 3 * n) t.places

@@ -1,21 +1,18 @@
 // A step of the machine at once: a thread's next instruction, and if it is a store, a store going to memory in the same
 // step.
-ghost use mathlib.Core.Path.{_≡_};
-ghost use Prim.Native.Nat.{_+_, _*_, _<_};
-ghost use lib.ListN.{length};
-ghost use Rattle·model.specs.Machine.{is-store, at-once};
-ghost use Rattle·program.specs.Instructions.{instruction};
-ghost use Rattle·program.specs.Meaning.{program};
-ghost use Rattle·machine·specs.Post.{Holds, Stepped};
-use crate::moves::next;
-use crate::moves::out;
+ghost use Rattle.std.specs.Prelude.{◌≡◌, ◌+◌, ◌*◌, ◌<◌, length};
+ghost use Rattle.model.specs.Machine.{is_store, at_once};
+ghost use Rattle.program.specs.Instructions.{instruction};
+ghost use Rattle.program.specs.Meaning.{program};
+ghost use Rattle.machine.specs.Post.{Holds, Stepped};
+
+use crate::moves::{next, out};
 use crate::standing::pc;
-use program::instructions::Instruction;
-use program::instructions::ThreadNumber;
+use program::instructions::{Instruction, ThreadNumber};
 use program::threads::Program;
 
 fn is_store(i: Instruction) -> bool
-    ensures { λ r. ⌜ r ≡ is-store (instruction i) ⌝ }
+    ensures { result ≡ is_store (instruction i) }
 {
     match i {
         Instruction::Store(_, _) => true,
@@ -28,11 +25,11 @@ fn is_store(i: Instruction) -> bool
 
 // The next instruction of thread `n` at once: into `to` the state that it leads to, where it can be done.
 pub fn at_once(p: &Program, n: ThreadNumber, from: &[u32], to: &mut [u32]) -> bool
-    requires same { ⌜ length (now to) ≡ length (now from) ⌝ }
-    requires room { ⌜ 3 + 3 * n .0 < length (now from) ⌝ }
-    requires thread { ⌜ n .0 < length (program (now p)) ⌝ }
-    requires holds { ⌜ Holds (program (now p)) (now from) ⌝ }
-    ensures { λ r. ⌜ Stepped (λ s. at-once (program (now (p .entry))) s (n .0)) (now (from .entry)) r (now (to .exit)) ⌝ }
+    requires same { length to.old ≡ length from.now }
+    requires room { 3 + 3 * n.0 < length from.now }
+    requires thread { n.0 < length (program p.now) }
+    requires holds { Holds (program p.now) from.now }
+    ensures { Stepped (λ s. at_once (program p.now) s n.0) from.now result to.new }
 {
     let Some(i) = p.instruction(n.0, pc(from, n.0)) else {
         return false;

@@ -1,46 +1,40 @@
 // A thread's three words, and what one move of the thread makes of them: shifts and sums, since a state is made and
 // looked up for every move. Only a read that may find a store of its own takes the row apart.
-ghost use mathlib.Core.Path.{_≡_};
-ghost use mathlib.Core.List.{List, _∷_, [], _++_};
-ghost use Prim.Native.Nat.{_<_};
-ghost use lib.Dec.{T};
-ghost use lib.ListN.{length};
-ghost use Rattle·lent.specs.Nibbles.{nibbles};
-ghost use Rattle·model.specs.Code.{ok-i, put};
-ghost use Rattle·model.specs.Machine.{At, Wait, done, newest};
-ghost use Rattle·program.specs.Instructions.{instruction};
-ghost use Rattle·machine·specs.Stores.{wait};
-ghost use Rattle·machine·specs.Effects.{Words-at, Standing, Becomes, Did};
+ghost use Rattle.std.specs.Prelude.{◌≡◌, ◌<◌, T, List, [], ◌∷◌, ◌++◌, length};
+ghost use Rattle.lent.specs.Nibbles.{nibbles};
+ghost use Rattle.model.specs.Code.{ok-i, put};
+ghost use Rattle.model.specs.Machine.{At, Wait, done, newest};
+ghost use Rattle.program.specs.Instructions.{instruction};
+ghost use Rattle.machine.specs.Stores.{wait};
+ghost use Rattle.machine.specs.Effects.{Words-at, Standing, Becomes, Did};
+
 use crate::packed::unpack_row;
 use crate::stores::Store;
 use crate::triples::ThreadWords;
-use lent::nibbles::nibble;
-use lent::nibbles::with_nibble;
-use program::instructions::Instruction;
-use program::instructions::Place;
-use program::instructions::Register;
+use lent::nibbles::{nibble, with_nibble};
+use program::instructions::{Instruction, Place, Register};
 
 impl ThreadWords {
     // Which instruction is next.
     pub fn pc(self) -> usize
-        ensures { λ r. ⌜ ((a : At) → Words-at self a → r ≡ a .pc) ⌝ }
+        ensures { (a : At) → Words-at self a → result ≡ a.pc }
     {
         ((self.first >> 16) & 15) as usize
     }
 
     // How many stores wait.
     pub fn waiting(self) -> u32
-        ensures { λ r. ⌜ ((a : At) → Words-at self a → r ≡ length (a .waits)) ⌝ }
+        ensures { (a : At) → Words-at self a → result ≡ length a.waits }
     {
         self.first >> 20
     }
 
     // The next instruction done, and with it a number put into a register.
     fn with_register(self, r: Register, value: u32) -> ThreadWords
-        requires standing { ⌜ Standing self ⌝ }
-        requires register { ⌜ r .0 < 4 ⌝ }
-        requires value { ⌜ value < 16 ⌝ }
-        ensures { λ t. ⌜ Becomes self (λ a. done a (put (a .regs) (r .0) value) (a .waits)) t ⌝ }
+        requires standing { Standing self }
+        requires register { r.0 < 4 }
+        requires value { value < 16 }
+        ensures { Becomes self (λ a. done a (put a.regs r.0 value) a.waits) result }
     {
         let registers = self.first & 0xffff;
         ThreadWords {
@@ -52,10 +46,10 @@ impl ThreadWords {
 
     // The next instruction done, and with it a store put into the row, behind the others.
     fn with_store(self, s: Store) -> ThreadWords
-        requires standing { ⌜ Standing self ⌝ }
-        requires place { ⌜ s .place .0 < 8 ⌝ }
-        requires value { ⌜ s .value < 16 ⌝ }
-        ensures { λ t. ⌜ Becomes self (λ a. done a (a .regs) (a .waits ++ wait s ∷ [])) t ⌝ }
+        requires standing { Standing self }
+        requires place { s.place.0 < 8 }
+        requires value { s.value < 16 }
+        ensures { Becomes self (λ a. done a a.regs (a.waits ++ wait s ∷ [])) result }
     {
         let shift = 4 * self.waiting();
         ThreadWords {
@@ -67,8 +61,8 @@ impl ThreadWords {
 
     // The next instruction done, and nothing else.
     fn passed(self) -> ThreadWords
-        requires { ⌜ Standing self ⌝ }
-        ensures { λ t. ⌜ Becomes self (λ a. done a (a .regs) (a .waits)) t ⌝ }
+        requires { Standing self }
+        ensures { Becomes self (λ a. done a a.regs a.waits) result }
     {
         ThreadWords {
             first: self.first + 0x1_0000,
@@ -79,10 +73,10 @@ impl ThreadWords {
 
     // What the thread reads at a place: its own newest store that waits, else memory's number.
     fn read(self, place: Place, memory: u32) -> u32
-        requires standing { ⌜ Standing self ⌝ }
-        requires small { ⌜ memory < 16 ⌝ }
-        ensures value { λ r. ⌜ ((a : At) → Words-at self a → r ≡ newest (a .waits) (place .0) memory) ⌝ }
-        ensures small { λ r. ⌜ r < 16 ⌝ }
+        requires standing { Standing self }
+        requires small { memory < 16 }
+        ensures value { (a : At) → Words-at self a → result ≡ newest a.waits place.0 memory }
+        ensures small { result < 16 }
     {
         let len = self.waiting();
         if len == 0 {
@@ -93,9 +87,9 @@ impl ThreadWords {
 
     // The thread with the instruction done, where memory is as given; none for a fence while a store waits.
     pub fn does(self, memory: u32, i: Instruction) -> Option<ThreadWords>
-        requires standing { ⌜ Standing self ⌝ }
-        requires fine { ⌜ T (ok-i (instruction i)) ⌝ }
-        ensures { λ r. ⌜ Did (nibbles 8 memory) self (instruction i) r ⌝ }
+        requires standing { Standing self }
+        requires fine { T (ok-i (instruction i)) }
+        ensures { Did (nibbles 8 memory) self (instruction i) result }
     {
         match i {
             Instruction::Set(r, n) => Some(self.with_register(r, n)),
@@ -123,9 +117,9 @@ impl ThreadWords {
 
     // The oldest store.
     pub fn oldest(self) -> Store
-        ensures first { λ s. ⌜ ((a : At) (w : Wait) (ws : List Wait) → Words-at self a → a .waits ≡ w ∷ ws → wait s ≡ w) ⌝ }
-        ensures place { λ s. ⌜ s .place .0 < 8 ⌝ }
-        ensures value { λ s. ⌜ s .value < 16 ⌝ }
+        ensures first { (a : At) (w : Wait) (ws : List Wait) → Words-at self a → a.waits ≡ w ∷ ws → wait result ≡ w }
+        ensures place { result.place.0 < 8 }
+        ensures value { result.value < 16 }
     {
         Store {
             place: Place(self.places & 7),
@@ -135,8 +129,8 @@ impl ThreadWords {
 
     // The thread without its oldest store.
     pub fn rest(self) -> ThreadWords
-        requires { ⌜ ((a : At) × Words-at self a × (0 < length (a .waits))) ⌝ }
-        ensures { λ t. ⌜ ((a : At) (w : Wait) (ws : List Wait) → Words-at self a → a .waits ≡ w ∷ ws → Words-at t (record { pc = a .pc; regs = a .regs; waits = ws })) ⌝ }
+        requires { (a : At) × Words-at self a × (0 < length a.waits) }
+        ensures { (a : At) (w : Wait) (ws : List Wait) → Words-at self a → a.waits ≡ w ∷ ws → Words-at result (record { pc = a.pc; regs = a.regs; waits = ws }) }
     {
         ThreadWords {
             first: self.first - 0x10_0000,

@@ -1,12 +1,11 @@
 // A move under a guard: a guarded instruction may be done only if no store of its thread waits. It is what a fence
 // right before the instruction does, and the program stays as it is.
-ghost use mathlib.Core.Path.{_≡_};
-ghost use Prim.Native.Nat.{_+_, _*_, _<_};
-ghost use lib.ListN.{length};
-ghost use Rattle·model.specs.Machine.{next as next-move};
-ghost use Rattle·model.specs.Guards.{gmove};
-ghost use Rattle·program.specs.Meaning.{program};
-ghost use Rattle·machine·specs.Post.{Holds, Stepped};
+ghost use Rattle.std.specs.Prelude.{◌≡◌, ◌+◌, ◌*◌, ◌<◌, length};
+ghost use Rattle.model.specs.Machine.{next as next-move};
+ghost use Rattle.model.specs.Guards.{gmove};
+ghost use Rattle.program.specs.Meaning.{program};
+ghost use Rattle.machine.specs.Post.{Holds, Stepped};
+
 use crate::moves::next;
 use crate::standing::nothing_waits;
 use program::instructions::ThreadNumber;
@@ -15,11 +14,11 @@ use program::threads::Program;
 // The next instruction of thread `n`, where `guard` says whether it is guarded: into `to` the state that it leads to,
 // where it can be done. Of all guards a move asks just one, that of its own instruction, whose number is `standing::pc`.
 pub fn guarded(p: &Program, n: ThreadNumber, guard: bool, from: &[u32], to: &mut [u32]) -> bool
-    requires same { ⌜ length (now to) ≡ length (now from) ⌝ }
-    requires room { ⌜ 3 + 3 * n .0 < length (now from) ⌝ }
-    requires thread { ⌜ n .0 < length (program (now p)) ⌝ }
-    requires holds { ⌜ Holds (program (now p)) (now from) ⌝ }
-    ensures { λ r. ⌜ Stepped (λ s. gmove (λ _ _. guard) (program (now (p .entry))) s (next-move (n .0))) (now (from .entry)) r (now (to .exit)) ⌝ }
+    requires same { length to.old ≡ length from.now }
+    requires room { 3 + 3 * n.0 < length from.now }
+    requires thread { n.0 < length (program p.now) }
+    requires holds { Holds (program p.now) from.now }
+    ensures { Stepped (λ s. gmove (λ _ _. guard) (program p.now) s (next-move n.0)) from.now result to.new }
 {
     if guard && !nothing_waits(from, n.0) {
         return false;

@@ -1,7 +1,6 @@
 // The store-buffer machine in code: a thread's registers and row of waiting stores, one move, and states as words.
-ghost use mathlib.Core.Bool.{true};
-ghost use mathlib.Core.Path.{_≡_};
-ghost use Rattle·machine·specs.Words.{Words-are-states};
+ghost use Rattle.std.specs.Prelude.{◌≡◌, true};
+ghost use Rattle.machine.specs.Words.{Words-are-states};
 
 pub mod at_once;
 pub mod buffer;
@@ -17,7 +16,7 @@ pub mod triples;
 
 // That states and their words are one another, for its contract: the crate is refused without the proof.
 pub fn words_are_states() -> bool
-    ensures { λ r. ⌜ (r ≡ true) × Words-are-states ⌝ }
+    ensures { (result ≡ true) × Words-are-states }
 {
     true
 }

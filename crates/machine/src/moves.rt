@@ -1,11 +1,10 @@
 // Moves of the machine on states as words: a thread's next instruction, a thread's oldest store going to memory.
-ghost use mathlib.Core.Path.{_≡_};
-ghost use Prim.Native.Nat.{_+_, _*_, _<_};
-ghost use lib.ListN.{length};
-ghost use Rattle·model.specs.Machine.{next as next-move, out as out-move, move};
-ghost use Rattle·program.specs.Meaning.{program};
-ghost use Rattle·machine·specs.Effects.{thread-words, with-words};
-ghost use Rattle·machine·specs.Post.{Holds, Stepped};
+ghost use Rattle.std.specs.Prelude.{◌≡◌, ◌+◌, ◌*◌, ◌<◌, length};
+ghost use Rattle.model.specs.Machine.{next as next-move, out as out-move, move};
+ghost use Rattle.program.specs.Meaning.{program};
+ghost use Rattle.machine.specs.Effects.{thread-words, with-words};
+ghost use Rattle.machine.specs.Post.{Holds, Stepped};
+
 use crate::triples::ThreadWords;
 use lent::nibbles::with_nibble;
 use program::instructions::ThreadNumber;
@@ -13,8 +12,8 @@ use program::threads::Program;
 
 // The words of thread `n` of a state.
 fn words_of(state: &[u32], n: usize) -> ThreadWords
-    requires { ⌜ 3 + 3 * n < length (now state) ⌝ }
-    ensures { λ r. ⌜ r ≡ thread-words (now (state .entry)) n ⌝ }
+    requires { 3 + 3 * n < length state.now }
+    ensures { result ≡ thread-words state.now n }
 {
     ThreadWords {
         first: state[1 + 3 * n],
@@ -25,8 +24,8 @@ fn words_of(state: &[u32], n: usize) -> ThreadWords
 
 // Puts a thread's words into a state.
 fn put_words(state: &mut [u32], n: usize, t: ThreadWords)
-    requires { ⌜ 3 + 3 * n < length (now state) ⌝ }
-    ensures { λ _. ⌜ now (state .exit) ≡ with-words (now (state .entry)) n t ⌝ }
+    requires { 3 + 3 * n < length state.old }
+    ensures { state.new ≡ with-words state.old n t }
 {
     state[1 + 3 * n] = t.first;
     state[2 + 3 * n] = t.values;
@@ -35,11 +34,11 @@ fn put_words(state: &mut [u32], n: usize, t: ThreadWords)
 
 // The next instruction of thread `n`: into `to` the state that it leads to, where it can be done.
 pub fn next(p: &Program, n: ThreadNumber, from: &[u32], to: &mut [u32]) -> bool
-    requires same { ⌜ length (now to) ≡ length (now from) ⌝ }
-    requires room { ⌜ 3 + 3 * n .0 < length (now from) ⌝ }
-    requires thread { ⌜ n .0 < length (program (now p)) ⌝ }
-    requires holds { ⌜ Holds (program (now p)) (now from) ⌝ }
-    ensures { λ r. ⌜ Stepped (λ s. move (program (now (p .entry))) s (next-move (n .0))) (now (from .entry)) r (now (to .exit)) ⌝ }
+    requires same { length to.old ≡ length from.now }
+    requires room { 3 + 3 * n.0 < length from.now }
+    requires thread { n.0 < length (program p.now) }
+    requires holds { Holds (program p.now) from.now }
+    ensures { Stepped (λ s. move (program p.now) s (next-move n.0)) from.now result to.new }
 {
     let thread = words_of(from, n.0);
     let Some(i) = p.instruction(n.0, thread.pc()) else {
@@ -55,11 +54,11 @@ pub fn next(p: &Program, n: ThreadNumber, from: &[u32], to: &mut [u32]) -> bool
 
 // The oldest store of thread `n` going to memory: into `to` the state that it leads to, where one waits.
 pub fn out(p: &Program, n: ThreadNumber, from: &[u32], to: &mut [u32]) -> bool
-    requires same { ⌜ length (now to) ≡ length (now from) ⌝ }
-    requires room { ⌜ 3 + 3 * n .0 < length (now from) ⌝ }
-    requires thread { ⌜ n .0 < length (program (now p)) ⌝ }
-    requires holds { ⌜ Holds (program (now p)) (now from) ⌝ }
-    ensures { λ r. ⌜ Stepped (λ s. move (program (now (p .entry))) s (out-move (n .0))) (now (from .entry)) r (now (to .exit)) ⌝ }
+    requires same { length to.old ≡ length from.now }
+    requires room { 3 + 3 * n.0 < length from.now }
+    requires thread { n.0 < length (program p.now) }
+    requires holds { Holds (program p.now) from.now }
+    ensures { Stepped (λ s. move (program p.now) s (out-move n.0)) from.now result to.new }
 {
     let thread = words_of(from, n.0);
     if thread.waiting() == 0 {

@@ -1,12 +1,11 @@
 // States as words. A state of so many threads is memory's word and three words for each thread: the registers with
 // which instruction is next and how many stores wait; the numbers of the stores that wait; their places.
-ghost use mathlib.Core.Path.{_≡_};
-ghost use mathlib.Core.List.{_∷_, []};
-ghost use Rattle·model.specs.Machine.{At};
-ghost use Prim.Native.Nat.{_≤_};
-ghost use Rattle·lent.specs.Nibbles.{number};
-ghost use Rattle·machine·specs.Meaning.{at, waits};
-ghost use Rattle·machine·specs.Packed.{Packs-at, pack-at, unpack-at, pairs, values as values-of, places as places-of};
+ghost use Rattle.std.specs.Prelude.{◌≡◌, ◌≤◌, [], ◌∷◌};
+ghost use Rattle.model.specs.Machine.{At};
+ghost use Rattle.lent.specs.Nibbles.{number};
+ghost use Rattle.machine.specs.Meaning.{at, waits};
+ghost use Rattle.machine.specs.Packed.{Packs-at, pack-at, unpack-at, pairs, values as values_of, places as places_of};
+
 use crate::rows::Row;
 use crate::stores::Store;
 use crate::threads::ThreadState;
@@ -15,10 +14,10 @@ use program::instructions::Place;
 
 // The row of `len` stores with these numbers and these places.
 pub fn unpack_row(len: usize, values: u32, places: u32) -> Row
-    requires { ⌜ len ≤ 8 ⌝ }
-    ensures is { λ r. ⌜ waits r ≡ pairs len values places ⌝ }
-    ensures begin { λ r. ⌜ r .begin ≡ 0 ⌝ }
-    ensures len { λ r. ⌜ r .len ≡ len ⌝ }
+    requires { len ≤ 8 }
+    ensures is { waits result ≡ pairs len values places }
+    ensures begin { result.begin ≡ 0 }
+    ensures len { result.len ≡ len }
 {
     let mut items = [Store {
         place: Place(0),
@@ -40,8 +39,8 @@ pub fn unpack_row(len: usize, values: u32, places: u32) -> Row
 
 // The thread that three words are.
 pub fn unpack_thread(word: u32, values: u32, places: u32) -> ThreadState
-    requires { ⌜ ((a : At) × Packs-at word values places a) ⌝ }
-    ensures { λ r. ⌜ at r ≡ unpack-at word values places ⌝ }
+    requires { (a : At) × Packs-at word values places a }
+    ensures { at result ≡ unpack-at word values places }
 {
     ThreadState {
         pc: ((word >> 16) & 15) as usize,

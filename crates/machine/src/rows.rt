@@ -1,9 +1,8 @@
 // A thread's row of waiting stores, the oldest first: eight places of an array, from `begin` on so many. A store that
 // has gone leaves its place unused, since a thread does at most eight stores in all.
-ghost use mathlib.Core.Path.{_≡_};
-ghost use Prim.Native.Nat.{_+_, _≤_};
-ghost use lib.ListN.{length};
-ghost use Rattle·machine·specs.Stores.{AllSmall};
+ghost use Rattle.std.specs.Prelude.{◌≡◌, ◌+◌, ◌≤◌, length};
+ghost use Rattle.machine.specs.Stores.{AllSmall};
+
 use crate::stores::Store;
 
 #[derive(Drop)]

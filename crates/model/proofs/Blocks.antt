@@ -1,17 +1,17 @@
 -- Threads with fences put in, by counts alone: before instruction k stand c k fences. Where the instruction then stands is
 -- start c k + c k, and its fences stand from start c k on.
-use mathlib.Core.Path.{_≡_, refl, sym, ap, _∙_, subst}
-use mathlib.Core.List.{List, [], _∷_, _++_}
+use mathlib.Core.Path.{◌≡◌, refl, sym, ap, ◌∙◌, subst}
+use mathlib.Core.List.{List, [], ◌∷◌, ◌++◌}
 use mathlib.Core.Option.{some}
-use mathlib.Core.Bool.{Bool, true, false, _&&_, _||_}
-use Prim.Native.Nat.{ℕ, zero, suc, _+_, _<_}
+use mathlib.Core.Bool.{Bool, true, false, ◌&&◌, ◌||◌}
+use Prim.Native.Nat.{ℕ, zero, suc, ◌+◌, ◌<◌}
 use native.Mathlib.Omega.{arith}
 use lib.ListN.{length}
 use lib.Dec.{eqb}
-use Rattle·model·specs.Code.{pick, nth, fence, Thread, Prog}
-use Rattle·model·specs.Fences.{Spot, here, put-in, fenced-ts, with-fences}
-use Rattle·model·specs.Guards.{guards}
-use Rattle·model·proofs.Tools.{false-true, Each}
+use Rattle.model.specs.Code.{pick, nth, fence, Thread, Prog}
+use Rattle.model.specs.Fences.{Spot, here, put_in, fenced-ts, with-fences}
+use Rattle.model.specs.Guards.{guards}
+use Rattle.model.proofs.Tools.{false-true, Each}
 
 abbrev pub fences : ℕ → Thread → Thread
 fences zero t = t
@@ -68,26 +68,26 @@ block-own c (x ∷ xs) (suc k) l h e =
 -- how often a spot stands in a list
 abbrev pub count : List Spot → ℕ → ℕ → ℕ
 count [] n k = 0
-count (s ∷ ss) n k = pick (eqb (s .thread) n && eqb (s .index) k) (suc (count ss n k)) (count ss n k)
+count (s ∷ ss) n k = pick (eqb s.thread n && eqb s.index k) (suc (count ss n k)) (count ss n k)
 
--- k + j, by clauses that go along with those of put-in
+-- k + j, by clauses that go along with those of put_in
 abbrev shift : ℕ → ℕ → ℕ
 shift k zero = k
 shift k (suc j) = shift (suc k) j
 
-shift-is : (k j : ℕ) → shift k j ≡ k + j
-shift-is k zero = omega arith
-shift-is k (suc j) = let h = shift-is (suc k) j in omega arith
+shift_is : (k j : ℕ) → shift k j ≡ k + j
+shift_is k zero = omega arith
+shift_is k (suc j) = let h = shift_is (suc k) j in omega arith
 
 here-fences : (ss : List Spot) (n k : ℕ) (t : Thread) → here ss n k ++ t ≡ fences (count ss n k) t
 here-fences [] n k t = refl
-here-fences (s ∷ ss) n k t = go (eqb (s .thread) n && eqb (s .index) k) (here-fences ss n k t)
+here-fences (s ∷ ss) n k t = go (eqb s.thread n && eqb s.index k) (here-fences ss n k t)
   where
     go : (b : Bool) → here ss n k ++ t ≡ fences (count ss n k) t → pick b (fence ∷ here ss n k) (here ss n k) ++ t ≡ fences (pick b (suc (count ss n k)) (count ss n k)) t
     go true e = ap {B = Thread} (λ z. fence ∷ z) e
     go false e = e
 
-put-in-blocks : (ss : List Spot) (n k : ℕ) (t : Thread) → put-in ss n k t ≡ blocks (λ j. count ss n (shift k j)) t
+put-in-blocks : (ss : List Spot) (n k : ℕ) (t : Thread) → put_in ss n k t ≡ blocks (λ j. count ss n (shift k j)) t
 put-in-blocks ss n k [] = refl
 put-in-blocks ss n k (i ∷ is) = ap {B = Thread} (λ z. here ss n k ++ (i ∷ z)) (put-in-blocks ss n (suc k) is) ∙ here-fences ss n k _
 
@@ -106,7 +106,7 @@ with-fences-blocks ss p = fenced-blocks ss 0 p
 -- an instruction is guarded exactly if a fence is put before it
 count-guards : (ss : List Spot) (n k : ℕ) → 0 < count ss n k → guards ss n k ≡ true
 count-guards [] n k h = absurd (omega arith)
-count-guards (s ∷ ss) n k h = go (eqb (s .thread) n && eqb (s .index) k) (count-guards ss n k) h
+count-guards (s ∷ ss) n k h = go (eqb s.thread n && eqb s.index k) (count-guards ss n k) h
   where
     go : (b : Bool) → (0 < count ss n k → guards ss n k ≡ true) → 0 < pick b (suc (count ss n k)) (count ss n k) → b || guards ss n k ≡ true
     go true f g = refl
@@ -114,7 +114,7 @@ count-guards (s ∷ ss) n k h = go (eqb (s .thread) n && eqb (s .index) k) (coun
 
 guards-count : (ss : List Spot) (n k : ℕ) → guards ss n k ≡ true → 0 < count ss n k
 guards-count [] n k h = absurd (false-true h)
-guards-count (s ∷ ss) n k h = go (eqb (s .thread) n && eqb (s .index) k) (guards-count ss n k) h
+guards-count (s ∷ ss) n k h = go (eqb s.thread n && eqb s.index k) (guards-count ss n k) h
   where
     go : (b : Bool) → (guards ss n k ≡ true → 0 < count ss n k) → b || guards ss n k ≡ true → 0 < pick b (suc (count ss n k)) (count ss n k)
     go true f g = omega arith
@@ -122,8 +122,8 @@ guards-count (s ∷ ss) n k h = go (eqb (s .thread) n && eqb (s .index) k) (guar
 
 counts-is : (ss : List Spot) (n k : ℕ) → counts ss n k ≡ count ss n k
 counts-is ss n k =
-    let e : shift 0 n ≡ n = let h = shift-is 0 n in omega arith in
-    let f : shift 0 k ≡ k = let h = shift-is 0 k in omega arith in
+    let e : shift 0 n ≡ n = let h = shift_is 0 n in omega arith in
+    let f : shift 0 k ≡ k = let h = shift_is 0 k in omega arith in
     ap (λ (z : ℕ). count ss z (shift 0 k)) e ∙ ap (count ss n) f
 
 pub counts-guards : (ss : List Spot) (n k : ℕ) → 0 < counts ss n k → guards ss n k ≡ true

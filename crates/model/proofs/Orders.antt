@@ -14,26 +14,26 @@ pub mod FromRuns
 pub mod Settling
 pub mod ToRuns
 pub mod Alones
-use mathlib.Core.Path.{_≡_, refl, sym, _∙_, ap, ap₂, subst}
-use mathlib.Core.List.{List, [], _∷_, _++_}
+use mathlib.Core.Path.{◌≡◌, refl, sym, ◌∙◌, ap, ap₂, subst}
+use mathlib.Core.List.{List, [], ◌∷◌, ◌++◌}
 use mathlib.Core.Option.{Option, some, none}
 use Prim.Native.Nat.{ℕ, zero, suc}
 use native.Mathlib.Omega.{arith}
 use lib.ListN.{replicate}
 use lib.Dec.{T}
-use Rattle·model·specs.Code.{nth, Thread, Prog, ok}
-use Rattle·model·specs.Machine.{At, starts, begin}
-use Rattle·model·specs.Orders.{Ev, Alone, alone}
-use Rattle·model·specs.Outcomes.{Waiting, By-order}
-use Rattle·model·specs.Theorems.{Machine-is-orders}
-use Rattle·model·proofs.Tools.{fresh, starts-length}
-use Rattle·model·proofs.Orders.Events.{within}
-use Rattle·model·proofs.Orders.Ordered.{goes-ordered, ordered-goes}
-use Rattle·model·proofs.Orders.Rows.{rest, Row}
-use Rattle·model·proofs.Orders.States.{code, stand, stand-is, future, events, goes-same, Pending}
-use Rattle·model·proofs.Orders.FromRuns.{from-run}
-use Rattle·model·proofs.Orders.ToRuns.{to-run}
-use Rattle·model·proofs.Orders.Alones.{given, table, given-table, whole, whole-well, all-regs, order-ordered, ordered-order}
+use Rattle.model.specs.Code.{nth, Thread, Prog, ok}
+use Rattle.model.specs.Machine.{At, starts, begin}
+use Rattle.model.specs.Orders.{Ev, Alone, alone}
+use Rattle.model.specs.Outcomes.{Waiting, By-order}
+use Rattle.model.specs.Theorems.{Machine-is-orders}
+use Rattle.model.proofs.Tools.{fresh, starts-length}
+use Rattle.model.proofs.Orders.Events.{within}
+use Rattle.model.proofs.Orders.Ordered.{goes-ordered, ordered-goes}
+use Rattle.model.proofs.Orders.Rows.{rest, Row}
+use Rattle.model.proofs.Orders.States.{code, stand, stand-is, future, events, goes_same, Pending}
+use Rattle.model.proofs.Orders.FromRuns.{from-run}
+use Rattle.model.proofs.Orders.ToRuns.{to-run}
+use Rattle.model.proofs.Orders.Alones.{given, table, given-table, whole, whole-well, all-regs, order-ordered, ordered-order}
 
 -- at the beginning every thread has all to do, and no row
 starts-at : (p : Prog) (n : ℕ) → stand (starts p) n ≡ fresh
@@ -41,10 +41,10 @@ starts-at [] n = refl
 starts-at (t ∷ ts) zero = refl
 starts-at (t ∷ ts) (suc n) = starts-at ts n
 
-abbrev no-rows : ℕ → List Ev
-no-rows n = []
+abbrev no_rows : ℕ → List Ev
+no_rows n = []
 
-pending : (p : Prog) → Pending p (starts p) no-rows
+pending : (p : Prog) → Pending p (starts p) no_rows
 pending p = record {
   many = starts-length p;
   rows = λ n. subst (λ (a : At). Row (code p n) a []) (sym (starts-at p n)) (record { inside = omega arith; line = refl; held = λ e i. absurd (within i) });
@@ -55,7 +55,7 @@ all-to-come p vs n = ap (λ (a : At). rest n (code p n) a (vs n)) (starts-at p n
 
 -- what a function says that the threads read, a list says too: where there is no thread nothing is read
 abbrev Like : Alone → Alone → Type 0
-Like a b = (a .evs ≡ b .evs) × (a .regs ≡ b .regs)
+Like a b = (a.evs ≡ b.evs) × (a.regs ≡ b.regs)
 
 listed : (p : Prog) (vs : ℕ → List ℕ) (n : ℕ) → Like (whole p vs n) (whole p (given (table vs p)) n)
 listed p vs n = go (nth p n) refl
@@ -64,25 +64,25 @@ listed p vs n = go (nth p n) refl
     go none q = rw q (refl, refl)
     go (some t) q =
         let z = sym (given-table vs p n q) in
-        (ap (λ (xs : List ℕ). alone n 0 (code p n) (replicate 4 0) xs .evs) z, ap (λ (xs : List ℕ). alone n 0 (code p n) (replicate 4 0) xs .regs) z)
+        (ap (λ (xs : List ℕ). (alone n 0 (code p n) (replicate 4 0) xs).evs) z, ap (λ (xs : List ℕ). (alone n 0 (code p n) (replicate 4 0) xs).regs) z)
 
 waiting-ordered : (p : Prog) (o : List ℕ) → T (ok p) → Waiting p o → By-order p o
 waiting-ordered p o fine (ms, s, run, ended, came) =
-    let f = from-run p ms (begin p) s no-rows (pending p) run ended in
-    let vss = table (f .vs) p in
-    let same-evs : (n : ℕ) → events p (starts p) no-rows (f .vs) n ≡ whole p (given vss) n .evs = λ n. ap (λ (a : Alone). a .evs) (all-to-come p (f .vs) n) ∙ listed p (f .vs) n .0 in
-    let goes = goes-same p (replicate 8 0) _ _ (f .es) same-evs (f .goes) in
-    let order = ordered-order p vss (f .es) (goes-ordered p (replicate 8 0) _ (f .es) (whole-well p (given vss) fine) goes) in
-    let regs = all-regs p vss (s .threads) (f .same .many) (λ n a q. ap (λ (b : At). b .regs) (sym (stand-is (s .threads) n q)) ∙ (f .same .regs n ∙ (ap (λ (b : Alone). b .regs) (all-to-come p (f .vs) n) ∙ listed p (f .vs) n .1))) in
-    (vss, f .es, order, sym came ∙ ap₂ (λ (xs ys : List ℕ). xs ++ ys) regs (f .same .mem))
+    let f = from-run p ms (begin p) s no_rows (pending p) run ended in
+    let vss = table f.vs p in
+    let same-evs : (n : ℕ) → events p (starts p) no_rows f.vs n ≡ (whole p (given vss) n).evs = λ n. ap (λ (a : Alone). a.evs) (all-to-come p f.vs n) ∙ (listed p f.vs n).0 in
+    let goes = goes_same p (replicate 8 0) _ _ f.es same-evs f.goes in
+    let order = ordered-order p vss f.es (goes-ordered p (replicate 8 0) _ f.es (whole-well p (given vss) fine) goes) in
+    let regs = all-regs p vss s.threads f.same.many (λ n a q. ap (λ (b : At). b.regs) (sym (stand-is s.threads n q)) ∙ (f.same.regs n ∙ (ap (λ (b : Alone). b.regs) (all-to-come p f.vs n) ∙ (listed p f.vs n).1))) in
+    (vss, f.es, order, sym came ∙ ap₂ (λ (xs ys : List ℕ). xs ++ ys) regs f.same.mem)
 
 ordered-waiting : (p : Prog) (o : List ℕ) → T (ok p) → By-order p o → Waiting p o
 ordered-waiting p o fine (vss, es, order, is) =
     let vs = given vss in
     let goes = ordered-goes p (replicate 8 0) _ es (whole-well p vs fine) (order-ordered p vss es order) in
-    let r = to-run p es (begin p) no-rows vs (pending p) (goes-same p (replicate 8 0) _ (events p (starts p) no-rows vs) es (λ n. sym (ap (λ (a : Alone). a .evs) (all-to-come p vs n))) goes) in
-    let regs = all-regs p vss (r .to .threads) (r .same .many) (λ n a q. ap (λ (b : At). b .regs) (sym (stand-is (r .to .threads) n q)) ∙ (r .same .regs n ∙ ap (λ (b : Alone). b .regs) (all-to-come p vs n))) in
-    (r .ms, r .to, r .run, r .ended, ap₂ (λ (xs ys : List ℕ). xs ++ ys) regs (r .same .mem) ∙ sym is)
+    let r = to-run p es (begin p) no_rows vs (pending p) (goes_same p (replicate 8 0) _ (events p (starts p) no_rows vs) es (λ n. sym (ap (λ (a : Alone). a.evs) (all-to-come p vs n))) goes) in
+    let regs = all-regs p vss r.to.threads r.same.many (λ n a q. ap (λ (b : At). b.regs) (sym (stand-is r.to.threads n q)) ∙ (r.same.regs n ∙ ap (λ (b : Alone). b.regs) (all-to-come p vs n))) in
+    (r.ms, r.to, r.run, r.ended, ap₂ (λ (xs ys : List ℕ). xs ++ ys) regs r.same.mem ∙ sym is)
 
 pub machine-is-orders : Machine-is-orders
 machine-is-orders p o fine = (waiting-ordered p o fine, ordered-waiting p o fine)

@@ -1,18 +1,18 @@
 -- Runs under guards. A run under guards is a run to the same state, and a run is still one under guards exactly if it
 -- passes none of them while something of its thread waits, that is, if the guarded spots are apart from its hits.
-use mathlib.Core.Path.{_≡_, refl, sym, ap, _∙_, subst}
-use mathlib.Core.Logic.{_⊎_, inl, inr}
-use mathlib.Core.List.{List, [], _∷_, _++_}
+use mathlib.Core.Path.{◌≡◌, refl, sym, ap, ◌∙◌, subst}
+use mathlib.Core.Logic.{◌⊎◌, inl, inr}
+use mathlib.Core.List.{List, [], ◌∷◌, ◌++◌}
 use mathlib.Core.Option.{Option, some, none}
-use mathlib.Core.Bool.{Bool, true, false, _&&_, _||_, not}
+use mathlib.Core.Bool.{Bool, true, false, ◌&&◌, ◌||◌, not}
 use Prim.Native.Nat.{ℕ}
 use lib.Dec.{eqb}
-use Rattle·model·specs.Code.{pick, opt, nth, Prog}
-use Rattle·model·specs.Machine.{At, St, Move, next, out, move, moves, empty}
-use Rattle·model·specs.Fences.{Spot}
-use Rattle·model·specs.Guards.{Guard, guards, free, gmove, gmoves, hit, hits, On, on-first, on-more, Apart}
-use Rattle·model·specs.Theorems.{No-more-states, Still-a-run}
-use Rattle·model·proofs.Tools.{opt-some, opt-is, false-true, pick-some, eqb-is, eqb-same, and-both}
+use Rattle.model.specs.Code.{pick, opt, nth, Prog}
+use Rattle.model.specs.Machine.{At, St, Move, next, out, move, moves, empty}
+use Rattle.model.specs.Fences.{Spot}
+use Rattle.model.specs.Guards.{Guard, guards, free, gmove, gmoves, hit, hits, On, on-first, on-more, Apart}
+use Rattle.model.specs.Theorems.{No-more-states, Still-a-run}
+use Rattle.model.proofs.Tools.{opt-some, opt-is, false-true, pick_some, eqb_is, eqb_same, and_both}
 
 -- standing in a list, by its first
 abbrev pub OnV : Spot → List Spot → Type 0
@@ -36,32 +36,32 @@ on-either [] ts h = inr h
 on-either {a} (s ∷ ss) ts h = elim (on-inv h) [ inl e ↦ inl (subst (λ (z : Spot). On z (s ∷ ss)) (sym e) on-first) | inr k ↦ elim (on-either ss ts k) [ inl x ↦ inl (on-more x) | inr y ↦ inr y ] ]
 
 -- the test of a guard says whether the spot stands in the list
-pub on-guards : (a : Spot) (ss : List Spot) → On a ss → guards ss (a .thread) (a .index) ≡ true
+pub on-guards : (a : Spot) (ss : List Spot) → On a ss → guards ss a.thread a.index ≡ true
 on-guards a [] h = absurd (on-inv h)
-on-guards a (s ∷ ss) h = elim (on-inv h) [ inl e ↦ same e | inr k ↦ more (on-guards a ss k) (eqb (s .thread) (a .thread) && eqb (s .index) (a .index)) ]
+on-guards a (s ∷ ss) h = elim (on-inv h) [ inl e ↦ same e | inr k ↦ more (on-guards a ss k) (eqb s.thread a.thread && eqb s.index a.index) ]
   where
-    same : a ≡ s → (eqb (s .thread) (a .thread) && eqb (s .index) (a .index)) || guards ss (a .thread) (a .index) ≡ true
-    same e = rw e (rw (eqb-same (s .thread)) (rw (eqb-same (s .index)) refl))
+    same : a ≡ s → (eqb s.thread a.thread && eqb s.index a.index) || guards ss a.thread a.index ≡ true
+    same e = rw e (rw (eqb_same s.thread) (rw (eqb_same s.index) refl))
 
-    more : guards ss (a .thread) (a .index) ≡ true → (b : Bool) → b || guards ss (a .thread) (a .index) ≡ true
+    more : guards ss a.thread a.index ≡ true → (b : Bool) → b || guards ss a.thread a.index ≡ true
     more g true = refl
     more g false = g
 
 pub guards-on : (n k : ℕ) (ss : List Spot) → guards ss n k ≡ true → On (record { thread = n; index = k }) ss
 guards-on n k [] h = absurd (false-true h)
-guards-on n k (s ∷ ss) h = go (eqb (s .thread) n && eqb (s .index) k) refl h (guards-on n k ss)
+guards-on n k (s ∷ ss) h = go (eqb s.thread n && eqb s.index k) refl h (guards-on n k ss)
   where
-    go : (b : Bool) → eqb (s .thread) n && eqb (s .index) k ≡ b → b || guards ss n k ≡ true → (guards ss n k ≡ true → On (record { thread = n; index = k }) ss) → On (record { thread = n; index = k }) (s ∷ ss)
+    go : (b : Bool) → eqb s.thread n && eqb s.index k ≡ b → b || guards ss n k ≡ true → (guards ss n k ≡ true → On (record { thread = n; index = k }) ss) → On (record { thread = n; index = k }) (s ∷ ss)
     go true e g f =
-        let (x, y) = and-both (eqb (s .thread) n) (eqb (s .index) k) e in
-        let u = eqb-is (s .thread) n x in
-        let v = eqb-is (s .index) k y in
+        let (x, y) = and_both (eqb s.thread n) (eqb s.index k) e in
+        let u = eqb_is s.thread n x in
+        let v = eqb_is s.index k y in
         let q : s ≡ record { thread = n; index = k } = λ i. record { thread = u i; index = v i } in
         subst (λ (z : Spot). On z (s ∷ ss)) q on-first
     go false e g f = on-more (f g)
 
 pub gmove-move : (g : Guard) (p : Prog) (s t : St) (m : Move) → gmove g p s m ≡ some t → (free g s m ≡ true) × (move p s m ≡ some t)
-gmove-move g p s t m e = pick-some (free g s m) (move p s m) e
+gmove-move g p s t m e = pick_some (free g s m) (move p s m) e
 
 pub move-gmove : (g : Guard) (p : Prog) (s t : St) (m : Move) → free g s m ≡ true → move p s m ≡ some t → gmove g p s m ≡ some t
 move-gmove g p s t m f e = rw f e
@@ -70,11 +70,11 @@ pub no-more-states : No-more-states
 no-more-states g p s t [] e = e
 no-more-states g p s t (m ∷ ms) e =
     let (u, eu, e1) = opt-some (gmove g p s m) _ e in
-    opt-is (move p s m) none _ (gmove-move g p s u m eu .1) ∙ no-more-states g p u t ms e1
+    opt-is (move p s m) none _ (gmove-move g p s u m eu).1 ∙ no-more-states g p u t ms e1
 
 -- more guards, fewer runs
 pub free-less : (g h : Guard) (s : St) (m : Move) → ((n k : ℕ) → g n k ≡ true → h n k ≡ true) → free h s m ≡ true → free g s m ≡ true
-free-less g h s (next n) less f = at (nth (s .threads) n) f
+free-less g h s (next n) less f = at (nth s.threads n) f
   where
     one : (k : ℕ) (e a b : Bool) → g n k ≡ a → h n k ≡ b → not b || e ≡ true → not a || e ≡ true
     one k true true b ea eb q = refl
@@ -83,9 +83,9 @@ free-less g h s (next n) less f = at (nth (s .threads) n) f
     one k false true true ea eb q = q
     one k false true false ea eb q = absurd (false-true (sym eb ∙ less n k ea))
 
-    at : (o : Option At) → opt o true (λ a. not (h n (a .pc)) || empty (a .waits)) ≡ true → opt o true (λ a. not (g n (a .pc)) || empty (a .waits)) ≡ true
+    at : (o : Option At) → opt o true (λ a. not (h n a.pc) || empty a.waits) ≡ true → opt o true (λ a. not (g n a.pc) || empty a.waits) ≡ true
     at none q = refl
-    at (some a) q = one (a .pc) (empty (a .waits)) (g n (a .pc)) (h n (a .pc)) refl refl q
+    at (some a) q = one a.pc (empty a.waits) (g n a.pc) (h n a.pc) refl refl q
 free-less g h s (out n) less f = refl
 
 pub gmoves-less : (g h : Guard) (p : Prog) (s t : St) (ms : List Move) → ((n k : ℕ) → g n k ≡ true → h n k ≡ true) → gmoves h p s ms ≡ some t → gmoves g p s ms ≡ some t
@@ -105,29 +105,29 @@ moves-gmoves p s t (m ∷ ms) e =
     let (u, eu, e1) = opt-some (move p s m) _ e in
     opt-is (gmove unguarded p s m) none _ (move-gmove unguarded p s u m (go m) eu) ∙ moves-gmoves p u t ms e1
   where
-    at : (o : Option At) → opt o true (λ a. not false || empty (a .waits)) ≡ true
+    at : (o : Option At) → opt o true (λ a. not false || empty a.waits) ≡ true
     at none = refl
     at (some a) = refl
 
     go : (m : Move) → free unguarded s m ≡ true
-    go (next n) = at (nth (s .threads) n)
+    go (next n) = at (nth s.threads n)
     go (out n) = refl
 
 -- no guard forbids a move exactly if its hit is no guarded spot
 free-apart : (ss : List Spot) (s : St) (m : Move) → free (guards ss) s m ≡ true → Apart ss (hit s m)
-free-apart ss s (next n) h = at (nth (s .threads) n) h
+free-apart ss s (next n) h = at (nth s.threads n) h
   where
     one : (k : ℕ) (e : Bool) → not (guards ss n k) || e ≡ true → Apart ss (pick e [] (record { thread = n; index = k } ∷ []))
     one k true h = λ a x y. on-inv y
-    one k false h = λ a x y. elim (on-inv y) [ inl e ↦ false-true (sym (ap (λ (z : Bool). not z || false) (subst (λ (z : Spot). guards ss (z .thread) (z .index) ≡ true) e (on-guards a ss x))) ∙ h) | inr z ↦ on-inv z ]
+    one k false h = λ a x y. elim (on-inv y) [ inl e ↦ false-true (sym (ap (λ (z : Bool). not z || false) (subst (λ (z : Spot). guards ss z.thread z.index ≡ true) e (on-guards a ss x))) ∙ h) | inr z ↦ on-inv z ]
 
-    at : (o : Option At) → opt o true (λ a. not (guards ss n (a .pc)) || empty (a .waits)) ≡ true → Apart ss (opt o [] (λ a. pick (empty (a .waits)) [] (record { thread = n; index = a .pc } ∷ [])))
+    at : (o : Option At) → opt o true (λ a. not (guards ss n a.pc) || empty a.waits) ≡ true → Apart ss (opt o [] (λ a. pick (empty a.waits) [] (record { thread = n; index = a.pc } ∷ [])))
     at none h = λ a x y. on-inv y
-    at (some b) h = one (b .pc) (empty (b .waits)) h
+    at (some b) h = one b.pc (empty b.waits) h
 free-apart ss s (out n) h = λ a x y. on-inv y
 
 apart-free : (ss : List Spot) (s : St) (m : Move) → Apart ss (hit s m) → free (guards ss) s m ≡ true
-apart-free ss s (next n) h = at (nth (s .threads) n) h
+apart-free ss s (next n) h = at (nth s.threads n) h
   where
     one : (k : ℕ) (e : Bool) (b : Bool) → guards ss n k ≡ b → Apart ss (pick e [] (record { thread = n; index = k } ∷ [])) → not b || e ≡ true
     one k true true q h = refl
@@ -135,9 +135,9 @@ apart-free ss s (next n) h = at (nth (s .threads) n) h
     one k false true q h = absurd (h (record { thread = n; index = k }) (guards-on n k ss q) on-first)
     one k false false q h = refl
 
-    at : (o : Option At) → Apart ss (opt o [] (λ a. pick (empty (a .waits)) [] (record { thread = n; index = a .pc } ∷ []))) → opt o true (λ a. not (guards ss n (a .pc)) || empty (a .waits)) ≡ true
+    at : (o : Option At) → Apart ss (opt o [] (λ a. pick (empty a.waits) [] (record { thread = n; index = a.pc } ∷ []))) → opt o true (λ a. not (guards ss n a.pc) || empty a.waits) ≡ true
     at none h = refl
-    at (some b) h = one (b .pc) (empty (b .waits)) (guards ss n (b .pc)) refl h
+    at (some b) h = one b.pc (empty b.waits) (guards ss n b.pc) refl h
 apart-free ss s (out n) h = refl
 
 still-apart : (ss : List Spot) (p : Prog) (s t : St) (ms : List Move) → gmoves (guards ss) p s ms ≡ some t → Apart ss (hits p s ms)

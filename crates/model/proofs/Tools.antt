@@ -1,31 +1,31 @@
 -- What every proof here stands on: options and tests read backwards, lists place by place, and what one move says.
 -- A simulation of one machine by another is always the same: memory is equal, and the threads are related place by
 -- place (Each). So what a move changes is one place of that relation, and the rest of it is kept (each-put).
-use mathlib.Core.Path.{_≡_, refl, sym, ap, _∙_, subst}
-use mathlib.Core.Logic.{_⊎_, inl, inr}
-use mathlib.Core.Bool.{Bool, true, false, _&&_}
-use mathlib.Core.List.{List, [], _∷_, _++_}
+use mathlib.Core.Path.{◌≡◌, refl, sym, ap, ◌∙◌, subst}
+use mathlib.Core.Logic.{◌⊎◌, inl, inr}
+use mathlib.Core.Bool.{Bool, true, false, ◌&&◌}
+use mathlib.Core.List.{List, [], ◌∷◌, ◌++◌}
 use mathlib.Core.Option.{Option, some, none}
-use Prim.Native.Nat.{ℕ, zero, suc, _+_, _≤_, _<_}
+use Prim.Native.Nat.{ℕ, zero, suc, ◌+◌, ◌≤◌, ◌<◌}
 use native.Mathlib.Omega.{arith}
 use lib.ListN.{length, replicate}
-use lib.Dec.{eqb, T, eqb→eq, eqb-refl}
-use Rattle·model·specs.Code.{pick, opt, nth, put, I, sets, adds, loads, stores, fence, Thread, Prog}
-use Rattle·model·specs.Machine.{Wait, At, St, Move, next, out, reg, done, does, instr, with-thread, flushed, move, moves, empty, starts, all-done, is-store, at-once, all-at-once}
+use lib.Dec.{eqb, T, eqb→eq, eqb_refl}
+use Rattle.model.specs.Code.{pick, opt, nth, put, I, sets, adds, loads, stores, fence, Thread, Prog}
+use Rattle.model.specs.Machine.{Wait, At, St, Move, next, out, reg, done, does, instr, with-thread, flushed, move, moves, empty, starts, all_done, is_store, at_once, all-at-once}
 
 -- Options and tests
 
 pub none-some : {A : Type 0} {a : A} → none ≡ some a → ⊥
-none-some e = let z : _≡_ {A = ℕ} 0 1 = cc in omega arith
+none-some e = let z : ◌≡◌ {A = ℕ} 0 1 = cc in omega arith
 
-pub some-is : {A : Type 0} {a b : A} → some a ≡ some b → a ≡ b
-some-is e = cc
+pub some_is : {A : Type 0} {a b : A} → some a ≡ some b → a ≡ b
+some_is e = cc
 
 pub false-true : false ≡ true → ⊥
-false-true e = let z : _≡_ {A = ℕ} 0 1 = cc in omega arith
+false-true e = let z : ◌≡◌ {A = ℕ} 0 1 = cc in omega arith
 
 pub nil-cons : {A : Type 0} {x : A} {xs : List A} → [] ≡ x ∷ xs → ⊥
-nil-cons e = let z : _≡_ {A = ℕ} 0 1 = cc in omega arith
+nil-cons e = let z : ◌≡◌ {A = ℕ} 0 1 = cc in omega arith
 
 -- a step that came to something had something to start from
 pub opt-some : {A C : Type 0} (o : Option A) (f : A → Option C) {t : C} → opt o none f ≡ some t → (a : A) × (o ≡ some a) × (f a ≡ some t)
@@ -35,43 +35,43 @@ opt-some (some a) f e = (a, refl, e)
 pub opt-is : {A C : Type 0} (o : Option A) (c : C) (f : A → C) {a : A} → o ≡ some a → opt o c f ≡ f a
 opt-is o c f e = ap (λ (z : Option _). opt z c f) e
 
-pub pick-some : {A : Type 0} (b : Bool) (o : Option A) {t : A} → pick b o none ≡ some t → (b ≡ true) × (o ≡ some t)
-pick-some true o e = (refl, e)
-pick-some false o e = absurd (none-some e)
+pub pick_some : {A : Type 0} (b : Bool) (o : Option A) {t : A} → pick b o none ≡ some t → (b ≡ true) × (o ≡ some t)
+pick_some true o e = (refl, e)
+pick_some false o e = absurd (none-some e)
 
 pub true-T : (b : Bool) → b ≡ true → T b
 true-T true e = tt
 true-T false e = false-true e
 
-pub T-true : (b : Bool) → T b → b ≡ true
-T-true true t = refl
-T-true false t = absurd t
+pub T_true : (b : Bool) → T b → b ≡ true
+T_true true t = refl
+T_true false t = absurd t
 
-pub eqb-is : (m n : ℕ) → eqb m n ≡ true → m ≡ n
-eqb-is m n e = eqb→eq m n (true-T (eqb m n) e)
+pub eqb_is : (m n : ℕ) → eqb m n ≡ true → m ≡ n
+eqb_is m n e = eqb→eq m n (true-T (eqb m n) e)
 
-pub eqb-same : (n : ℕ) → eqb n n ≡ true
-eqb-same n = T-true (eqb n n) (eqb-refl n)
+pub eqb_same : (n : ℕ) → eqb n n ≡ true
+eqb_same n = T_true (eqb n n) (eqb_refl n)
 
-pub and-both : (a b : Bool) → a && b ≡ true → (a ≡ true) × (b ≡ true)
-and-both true true e = (refl, refl)
-and-both true false e = absurd (false-true e)
-and-both false true e = absurd (false-true e)
-and-both false false e = absurd (false-true e)
+pub and_both : (a b : Bool) → a && b ≡ true → (a ≡ true) × (b ≡ true)
+and_both true true e = (refl, refl)
+and_both true false e = absurd (false-true e)
+and_both false true e = absurd (false-true e)
+and_both false false e = absurd (false-true e)
 
 -- two numbers are equal or not
-pub same-or : (m n : ℕ) → (m ≡ n) ⊎ (m ≡ n → ⊥)
-same-or zero zero = inl refl
-same-or zero (suc n) = inr (λ e. omega arith)
-same-or (suc m) zero = inr (λ e. omega arith)
-same-or (suc m) (suc n) = elim (same-or m n) [ inl e ↦ inl (ap suc e) | inr d ↦ inr (λ e. d (omega arith)) ]
+pub same_or : (m n : ℕ) → (m ≡ n) ⊎ (m ≡ n → ⊥)
+same_or zero zero = inl refl
+same_or zero (suc n) = inr (λ e. omega arith)
+same_or (suc m) zero = inr (λ e. omega arith)
+same_or (suc m) (suc n) = elim (same_or m n) [ inl e ↦ inl (ap suc e) | inr d ↦ inr (λ e. d (omega arith)) ]
 
 -- two numbers that differ fail the test
 pub eqb-not : (m n : ℕ) → (m ≡ n → ⊥) → eqb m n ≡ false
 eqb-not m n d = go (eqb m n) refl
   where
     go : (b : Bool) → eqb m n ≡ b → eqb m n ≡ false
-    go true e = absurd (d (eqb-is m n e))
+    go true e = absurd (d (eqb_is m n e))
     go false e = e
 
 -- Lists, place by place
@@ -105,18 +105,18 @@ module _ {A : Type 0} where
   put-put (x ∷ xs) zero u v = refl
   put-put (x ∷ xs) (suc n) u v = ap {B = List A} (λ r. x ∷ r) (put-put xs n u v)
 
-  pub put-other : (xs : List A) (n m : ℕ) (u v : A) → (n ≡ m → ⊥) → put (put xs n u) m v ≡ put (put xs m v) n u
-  put-other [] n m u v d = refl
-  put-other (x ∷ xs) zero zero u v d = absurd (d refl)
-  put-other (x ∷ xs) zero (suc m) u v d = refl
-  put-other (x ∷ xs) (suc n) zero u v d = refl
-  put-other (x ∷ xs) (suc n) (suc m) u v d = ap {B = List A} (λ r. x ∷ r) (put-other xs n m u v (λ e. d (ap suc e)))
+  pub put_other : (xs : List A) (n m : ℕ) (u v : A) → (n ≡ m → ⊥) → put (put xs n u) m v ≡ put (put xs m v) n u
+  put_other [] n m u v d = refl
+  put_other (x ∷ xs) zero zero u v d = absurd (d refl)
+  put_other (x ∷ xs) zero (suc m) u v d = refl
+  put_other (x ∷ xs) (suc n) zero u v d = refl
+  put_other (x ∷ xs) (suc n) (suc m) u v d = ap {B = List A} (λ r. x ∷ r) (put_other xs n m u v (λ e. d (ap suc e)))
 
   -- what stands there already, put there, changes nothing
-  pub put-same : (xs : List A) (n : ℕ) {x : A} → nth xs n ≡ some x → put xs n x ≡ xs
-  put-same [] n e = refl
-  put-same (y ∷ xs) zero e = ap {B = List A} (λ r. r ∷ xs) (sym (some-is e))
-  put-same (y ∷ xs) (suc n) e = ap {B = List A} (λ r. y ∷ r) (put-same xs n e)
+  pub put_same : (xs : List A) (n : ℕ) {x : A} → nth xs n ≡ some x → put xs n x ≡ xs
+  put_same [] n e = refl
+  put_same (y ∷ xs) zero e = ap {B = List A} (λ r. r ∷ xs) (sym (some_is e))
+  put_same (y ∷ xs) (suc n) e = ap {B = List A} (λ r. y ∷ r) (put_same xs n e)
 
   -- a list has an n-th exactly if n is below its length
   pub nth-below : (xs : List A) (n : ℕ) {x : A} → nth xs n ≡ some x → n < length xs
@@ -129,10 +129,10 @@ module _ {A : Type 0} where
   below-nth (y ∷ xs) zero h = (y, refl)
   below-nth (y ∷ xs) (suc n) h = below-nth xs n (omega arith)
 
-  pub nth-past : (xs : List A) (n : ℕ) → length xs ≤ n → nth xs n ≡ none
-  nth-past [] n h = refl
-  nth-past (y ∷ xs) zero h = absurd (omega arith)
-  nth-past (y ∷ xs) (suc n) h = nth-past xs n (omega arith)
+  pub nth_past : (xs : List A) (n : ℕ) → length xs ≤ n → nth xs n ≡ none
+  nth_past [] n h = refl
+  nth_past (y ∷ xs) zero h = absurd (omega arith)
+  nth_past (y ∷ xs) (suc n) h = nth_past xs n (omega arith)
 
   pub past-nth : (xs : List A) (n : ℕ) → nth xs n ≡ none → length xs ≤ n
   past-nth [] n e = omega arith
@@ -140,15 +140,15 @@ module _ {A : Type 0} where
   past-nth (y ∷ xs) (suc n) e = let h = past-nth xs n e in omega arith
 
   -- the n-th of two lists one after the other
-  pub nth-left : (xs ys : List A) (n : ℕ) → n < length xs → nth (xs ++ ys) n ≡ nth xs n
-  nth-left [] ys n h = absurd (omega arith)
-  nth-left (x ∷ xs) ys zero h = refl
-  nth-left (x ∷ xs) ys (suc n) h = nth-left xs ys n (omega arith)
+  pub nth_left : (xs ys : List A) (n : ℕ) → n < length xs → nth (xs ++ ys) n ≡ nth xs n
+  nth_left [] ys n h = absurd (omega arith)
+  nth_left (x ∷ xs) ys zero h = refl
+  nth_left (x ∷ xs) ys (suc n) h = nth_left xs ys n (omega arith)
 
-  pub nth-right : (xs ys : List A) (n k : ℕ) → n ≡ length xs + k → nth (xs ++ ys) n ≡ nth ys k
-  nth-right [] ys n k e = ap (nth ys) (omega arith)
-  nth-right (x ∷ xs) ys zero k e = absurd (omega arith)
-  nth-right (x ∷ xs) ys (suc n) k e = nth-right xs ys n k (omega arith)
+  pub nth_right : (xs ys : List A) (n k : ℕ) → n ≡ length xs + k → nth (xs ++ ys) n ≡ nth ys k
+  nth_right [] ys n k e = ap (nth ys) (omega arith)
+  nth_right (x ∷ xs) ys zero k e = absurd (omega arith)
+  nth_right (x ∷ xs) ys (suc n) k e = nth_right xs ys n k (omega arith)
 
 -- Two lists related place by place
 
@@ -165,8 +165,8 @@ module _ {A B : Type 0} where
 
 module _ {A B : Type 0} (R : ℕ → A → B → Type 0) where
   -- what stands at n on the one side has its like on the other
-  pub each-at : (xs : List A) (ys : List B) (n : ℕ) {a : A} → Each R xs ys → nth xs n ≡ some a → (b : B) × (nth ys n ≡ some b) × R n a b
-  each-at xs ys n {a} h e = go (nth ys n) refl
+  pub each_at : (xs : List A) (ys : List B) (n : ℕ) {a : A} → Each R xs ys → nth xs n ≡ some a → (b : B) × (nth ys n ≡ some b) × R n a b
+  each_at xs ys n {a} h e = go (nth ys n) refl
     where
       got : Opts (R n) (some a) (nth ys n)
       got = subst (λ (o : Option A). Opts (R n) o (nth ys n)) e (h n)
@@ -175,8 +175,8 @@ module _ {A B : Type 0} (R : ℕ → A → B → Type 0) where
       go none q = absurd (subst (λ (o : Option B). Opts (R n) (some a) o) q got)
       go (some b) q = (b, q, subst (λ (o : Option B). Opts (R n) (some a) o) q got)
 
-  pub each-back : (xs : List A) (ys : List B) (n : ℕ) {b : B} → Each R xs ys → nth ys n ≡ some b → (a : A) × (nth xs n ≡ some a) × R n a b
-  each-back xs ys n {b} h e = go (nth xs n) refl
+  pub each_back : (xs : List A) (ys : List B) (n : ℕ) {b : B} → Each R xs ys → nth ys n ≡ some b → (a : A) × (nth xs n ≡ some a) × R n a b
+  each_back xs ys n {b} h e = go (nth xs n) refl
     where
       got : Opts (R n) (nth xs n) (some b)
       got = subst (λ (o : Option B). Opts (R n) (nth xs n) o) e (h n)
@@ -186,8 +186,8 @@ module _ {A B : Type 0} (R : ℕ → A → B → Type 0) where
       go (some a) q = (a, q, subst (λ (o : Option A). Opts (R n) o (some b)) q got)
 
   -- what is known to stand at n on both sides is related
-  pub each-both : (xs : List A) (ys : List B) (n : ℕ) {a : A} {b : B} → Each R xs ys → nth xs n ≡ some a → nth ys n ≡ some b → R n a b
-  each-both xs ys n {a} {b} h e f = let (c, q, r) = each-at xs ys n h e in subst (λ (z : B). R n a z) (some-is (sym q ∙ f)) r
+  pub each_both : (xs : List A) (ys : List B) (n : ℕ) {a : A} {b : B} → Each R xs ys → nth xs n ≡ some a → nth ys n ≡ some b → R n a b
+  each_both xs ys n {a} {b} h e f = let (c, q, r) = each_at xs ys n h e in subst (λ (z : B). R n a z) (some_is (sym q ∙ f)) r
 
   -- a relation made at every place
   pub each-make : (xs : List A) (ys : List B) → length xs ≡ length ys → ((n : ℕ) (a : A) (b : B) → nth xs n ≡ some a → nth ys n ≡ some b → R n a b) → Each R xs ys
@@ -201,30 +201,30 @@ module _ {A B : Type 0} (R : ℕ → A → B → Type 0) where
 
   -- something else at n on both sides, related again
   pub each-put : (xs : List A) (ys : List B) (n : ℕ) (a : A) (b : B) → Each R xs ys → R n a b → Each R (put xs n a) (put ys n b)
-  each-put xs ys n a b h r m = elim (same-or n m) [ inl e ↦ here m e | inr d ↦ there d ]
+  each-put xs ys n a b h r m = elim (same_or n m) [ inl e ↦ here m e | inr d ↦ there d ]
     where
-      at-n : (o : Option A) (q : Option B) → nth xs n ≡ o → nth ys n ≡ q → Opts (R n) o q → Opts (R n) (nth (put xs n a) n) (nth (put ys n b) n)
-      at-n none none e f g = subst (λ (z : Option A). Opts (R n) z (nth (put ys n b) n)) (sym (nth-put-none xs n a e)) (subst (λ (z : Option B). Opts (R n) none z) (sym (nth-put-none ys n b f)) tt)
-      at-n none (some y) e f g = absurd g
-      at-n (some x) none e f g = absurd g
-      at-n (some x) (some y) e f g = subst (λ (z : Option A). Opts (R n) z (nth (put ys n b) n)) (sym (nth-put-same xs n a e)) (subst (λ (z : Option B). Opts (R n) (some a) z) (sym (nth-put-same ys n b f)) r)
+      at_n : (o : Option A) (q : Option B) → nth xs n ≡ o → nth ys n ≡ q → Opts (R n) o q → Opts (R n) (nth (put xs n a) n) (nth (put ys n b) n)
+      at_n none none e f g = subst (λ (z : Option A). Opts (R n) z (nth (put ys n b) n)) (sym (nth-put-none xs n a e)) (subst (λ (z : Option B). Opts (R n) none z) (sym (nth-put-none ys n b f)) tt)
+      at_n none (some y) e f g = absurd g
+      at_n (some x) none e f g = absurd g
+      at_n (some x) (some y) e f g = subst (λ (z : Option A). Opts (R n) z (nth (put ys n b) n)) (sym (nth-put-same xs n a e)) (subst (λ (z : Option B). Opts (R n) (some a) z) (sym (nth-put-same ys n b f)) r)
 
       here : (k : ℕ) → n ≡ k → Opts (R k) (nth (put xs n a) k) (nth (put ys n b) k)
-      here k e = subst (λ (z : ℕ). Opts (R z) (nth (put xs n a) z) (nth (put ys n b) z)) e (at-n (nth xs n) (nth ys n) refl refl (h n))
+      here k e = subst (λ (z : ℕ). Opts (R z) (nth (put xs n a) z) (nth (put ys n b) z)) e (at_n (nth xs n) (nth ys n) refl refl (h n))
 
       there : (n ≡ m → ⊥) → Opts (R m) (nth (put xs n a) m) (nth (put ys n b) m)
       there d = subst (λ (z : Option A). Opts (R m) z (nth (put ys n b) m)) (sym (nth-put-other xs n m a d)) (subst (λ (z : Option B). Opts (R m) (nth xs m) z) (sym (nth-put-other ys n m b d)) (h m))
 
   -- a step on one side only
-  pub each-left : (xs : List A) (ys : List B) (n : ℕ) (a : A) {b : B} → Each R xs ys → nth ys n ≡ some b → R n a b → Each R (put xs n a) ys
-  each-left xs ys n a {b} h e r = subst (λ (z : List B). Each R (put xs n a) z) (put-same ys n e) (each-put xs ys n a b h r)
+  pub each_left : (xs : List A) (ys : List B) (n : ℕ) (a : A) {b : B} → Each R xs ys → nth ys n ≡ some b → R n a b → Each R (put xs n a) ys
+  each_left xs ys n a {b} h e r = subst (λ (z : List B). Each R (put xs n a) z) (put_same ys n e) (each-put xs ys n a b h r)
 
-  pub each-right : (xs : List A) (ys : List B) (n : ℕ) {a : A} (b : B) → Each R xs ys → nth xs n ≡ some a → R n a b → Each R xs (put ys n b)
-  each-right xs ys n {a} b h e r = subst (λ (z : List A). Each R z (put ys n b)) (put-same xs n e) (each-put xs ys n a b h r)
+  pub each_right : (xs : List A) (ys : List B) (n : ℕ) {a : A} (b : B) → Each R xs ys → nth xs n ≡ some a → R n a b → Each R xs (put ys n b)
+  each_right xs ys n {a} b h e r = subst (λ (z : List A). Each R z (put ys n b)) (put_same xs n e) (each-put xs ys n a b h r)
 
   -- a weaker relation
-  pub each-map : (S : ℕ → A → B → Type 0) (xs : List A) (ys : List B) → ((n : ℕ) (a : A) (b : B) → R n a b → S n a b) → Each R xs ys → Each S xs ys
-  each-map S xs ys f h n = go (nth xs n) (nth ys n) (h n)
+  pub each_map : (S : ℕ → A → B → Type 0) (xs : List A) (ys : List B) → ((n : ℕ) (a : A) (b : B) → R n a b → S n a b) → Each R xs ys → Each S xs ys
+  each_map S xs ys f h n = go (nth xs n) (nth ys n) (h n)
     where
       go : (o : Option A) (q : Option B) → Opts (R n) o q → Opts (S n) o q
       go none none g = tt
@@ -239,107 +239,107 @@ each-length R (x ∷ xs) [] h = absurd (h 0)
 each-length R (x ∷ xs) (y ∷ ys) h = ap suc (each-length (λ n. R (suc n)) xs ys (λ n. h (suc n)))
 
 -- lists that are equal at every place are equal
-pub each-same : {A : Type 0} (xs ys : List A) → Each (λ n a b. a ≡ b) xs ys → xs ≡ ys
-each-same [] [] h = refl
-each-same [] (y ∷ ys) h = absurd (h 0)
-each-same (x ∷ xs) [] h = absurd (h 0)
-each-same (x ∷ xs) (y ∷ ys) h = let e : x ≡ y = h 0 in let es = each-same xs ys (λ n. h (suc n)) in cc
+pub each_same : {A : Type 0} (xs ys : List A) → Each (λ n a b. a ≡ b) xs ys → xs ≡ ys
+each_same [] [] h = refl
+each_same [] (y ∷ ys) h = absurd (h 0)
+each_same (x ∷ xs) [] h = absurd (h 0)
+each_same (x ∷ xs) (y ∷ ys) h = let e : x ≡ y = h 0 in let es = each_same xs ys (λ n. h (suc n)) in cc
 
 -- What one move says
 
 -- thread n did its next instruction
 pub record Next (p : Prog) (s : St) (n : ℕ) (t : St) : Type 0 where
   pub was : At
-  pub stands : nth (s .threads) n ≡ some was
+  pub stands : nth s.threads n ≡ some was
   pub code : Thread
   pub of : nth p n ≡ some code
   pub i : I
-  pub at : nth code (was .pc) ≡ some i
+  pub at : nth code was.pc ≡ some i
   pub now : At
-  pub did : does (s .mem) was i ≡ some now
+  pub did : does s.mem was i ≡ some now
   pub gives : t ≡ with-thread s n now
 
 -- a thread with its oldest waiting store gone
-abbrev pub rest-of : At → List Wait → At
-rest-of a ws = record { pc = a .pc; regs = a .regs; waits = ws }
+abbrev pub rest_of : At → List Wait → At
+rest_of a ws = record { pc = a.pc; regs = a.regs; waits = ws }
 
 -- a state after the store w of thread n went to memory, and left the thread as a says
 abbrev pub gone : St → ℕ → Wait → At → St
-gone s n w a = record { mem = put (s .mem) (w .place) (w .val); threads = put (s .threads) n a }
+gone s n w a = record { mem = put s.mem w.place w.val; threads = put s.threads n a }
 
 -- the oldest store of thread n went to memory
 pub record Out (s : St) (n : ℕ) (t : St) : Type 0 where
   pub was : At
-  pub stands : nth (s .threads) n ≡ some was
+  pub stands : nth s.threads n ≡ some was
   pub w : Wait
   pub ws : List Wait
-  pub line : was .waits ≡ w ∷ ws
-  pub gives : t ≡ gone s n w (rest-of was ws)
+  pub line : was.waits ≡ w ∷ ws
+  pub gives : t ≡ gone s n w (rest_of was ws)
 
-pub instr-is : (p : Prog) (n : ℕ) (a : At) {c : Thread} {i : I} → nth p n ≡ some c → nth c (a .pc) ≡ some i → instr p n a ≡ some i
+pub instr-is : (p : Prog) (n : ℕ) (a : At) {c : Thread} {i : I} → nth p n ≡ some c → nth c a.pc ≡ some i → instr p n a ≡ some i
 instr-is p n a e f = opt-is (nth p n) none _ e ∙ f
 
-pub next-of : (p : Prog) (s : St) (n : ℕ) (t : St) → move p s (next n) ≡ some t → Next p s n t
-next-of p s n t e =
-    let (a, ea, e1) = opt-some (nth (s .threads) n) _ e in
+pub next_of : (p : Prog) (s : St) (n : ℕ) (t : St) → move p s (next n) ≡ some t → Next p s n t
+next_of p s n t e =
+    let (a, ea, e1) = opt-some (nth s.threads n) _ e in
     let (i, ei, e2) = opt-some (instr p n a) _ e1 in
-    let (b, eb, e3) = opt-some (does (s .mem) a i) _ e2 in
+    let (b, eb, e3) = opt-some (does s.mem a i) _ e2 in
     let (c, ec, e4) = opt-some (nth p n) _ ei in
-    record { was = a; stands = ea; code = c; of = ec; i = i; at = e4; now = b; did = eb; gives = sym (some-is e3) }
+    record { was = a; stands = ea; code = c; of = ec; i = i; at = e4; now = b; did = eb; gives = sym (some_is e3) }
 
 pub of-next : (p : Prog) (s : St) (n : ℕ) (t : St) → Next p s n t → move p s (next n) ≡ some t
 of-next p s n t x =
-    opt-is (nth (s .threads) n) none _ (x .stands) ∙ (opt-is (instr p n (x .was)) none _ (instr-is p n (x .was) (x .of) (x .at)) ∙ (opt-is (does (s .mem) (x .was) (x .i)) none _ (x .did) ∙ ap some (sym (x .gives))))
+    opt-is (nth s.threads n) none _ x.stands ∙ (opt-is (instr p n x.was) none _ (instr-is p n x.was x.of x.at) ∙ (opt-is (does s.mem x.was x.i) none _ x.did ∙ ap some (sym x.gives)))
 
-flushed-of : (s : St) (n : ℕ) (a : At) (ws : List Wait) (t : St) → flushed s n a ws ≡ some t → (w : Wait) × (vs : List Wait) × (ws ≡ w ∷ vs) × (t ≡ gone s n w (rest-of a vs))
+flushed-of : (s : St) (n : ℕ) (a : At) (ws : List Wait) (t : St) → flushed s n a ws ≡ some t → (w : Wait) × (vs : List Wait) × (ws ≡ w ∷ vs) × (t ≡ gone s n w (rest_of a vs))
 flushed-of s n a [] t e = absurd (none-some e)
-flushed-of s n a (w ∷ ws) t e = (w, ws, refl, sym (some-is e))
+flushed-of s n a (w ∷ ws) t e = (w, ws, refl, sym (some_is e))
 
-pub out-of : (p : Prog) (s : St) (n : ℕ) (t : St) → move p s (out n) ≡ some t → Out s n t
-out-of p s n t e =
-    let (a, ea, e1) = opt-some (nth (s .threads) n) _ e in
-    let (w, ws, ew, e2) = flushed-of s n a (a .waits) t e1 in
+pub out_of : (p : Prog) (s : St) (n : ℕ) (t : St) → move p s (out n) ≡ some t → Out s n t
+out_of p s n t e =
+    let (a, ea, e1) = opt-some (nth s.threads n) _ e in
+    let (w, ws, ew, e2) = flushed-of s n a a.waits t e1 in
     record { was = a; stands = ea; w = w; ws = ws; line = ew; gives = e2 }
 
 pub of-out : (p : Prog) (s : St) (n : ℕ) (t : St) → Out s n t → move p s (out n) ≡ some t
 of-out p s n t x =
-    opt-is (nth (s .threads) n) none _ (x .stands) ∙ (ap (flushed s n (x .was)) (x .line) ∙ ap some (sym (x .gives)))
+    opt-is (nth s.threads n) none _ x.stands ∙ (ap (flushed s n x.was) x.line ∙ ap some (sym x.gives))
 
 -- after the instruction i the machine at once goes on from m to t: a store goes out, anything else is all
 abbrev pub Ends : I → St → ℕ → St → Type 0
-Ends i m n t = ((is-store i ≡ true) × Out m n t) ⊎ ((is-store i ≡ false) × (t ≡ m))
+Ends i m n t = ((is_store i ≡ true) × Out m n t) ⊎ ((is_store i ≡ false) × (t ≡ m))
 
 -- thread n did its next instruction, and if that was a store it went to memory
 pub record Once (p : Prog) (s : St) (n : ℕ) (t : St) : Type 0 where
   pub mid : St
   pub first : Next p s n mid
-  pub then : Ends (first .i) mid n t
+  pub then : Ends first.i mid n t
 
-pub once-of : (p : Prog) (s : St) (n : ℕ) (t : St) → at-once p s n ≡ some t → Once p s n t
+pub once-of : (p : Prog) (s : St) (n : ℕ) (t : St) → at_once p s n ≡ some t → Once p s n t
 once-of p s n t e =
-    let (a, ea, e1) = opt-some (nth (s .threads) n) _ e in
+    let (a, ea, e1) = opt-some (nth s.threads n) _ e in
     let (i, ei, e2) = opt-some (instr p n a) _ e1 in
     let (m, em, e3) = opt-some (move p s (next n)) _ e2 in
-    let x = next-of p s n m em in
-    let same : x .was ≡ a = some-is (sym (x .stands) ∙ ea) in
-    let same-i : x .i ≡ i = some-is (sym (instr-is p n (x .was) (x .of) (x .at)) ∙ (ap (instr p n) same ∙ ei)) in
-    record { mid = m; first = x; then = go (x .i) m (is-store (x .i)) refl (ap (λ (z : I). pick (is-store z) (move p m (out n)) (some m)) same-i ∙ e3) }
+    let x = next_of p s n m em in
+    let same : x.was ≡ a = some_is (sym x.stands ∙ ea) in
+    let same-i : x.i ≡ i = some_is (sym (instr-is p n x.was x.of x.at) ∙ (ap (instr p n) same ∙ ei)) in
+    record { mid = m; first = x; then = go x.i m (is_store x.i) refl (ap (λ (z : I). pick (is_store z) (move p m (out n)) (some m)) same-i ∙ e3) }
   where
-    go : (i : I) (m : St) (b : Bool) → is-store i ≡ b → pick (is-store i) (move p m (out n)) (some m) ≡ some t → Ends i m n t
-    go i m true q f = inl (q, out-of p m n t (sym (ap (λ (z : Bool). pick z (move p m (out n)) (some m)) q) ∙ f))
-    go i m false q f = inr (q, sym (some-is (sym (ap (λ (z : Bool). pick z (move p m (out n)) (some m)) q) ∙ f)))
+    go : (i : I) (m : St) (b : Bool) → is_store i ≡ b → pick (is_store i) (move p m (out n)) (some m) ≡ some t → Ends i m n t
+    go i m true q f = inl (q, out_of p m n t (sym (ap (λ (z : Bool). pick z (move p m (out n)) (some m)) q) ∙ f))
+    go i m false q f = inr (q, sym (some_is (sym (ap (λ (z : Bool). pick z (move p m (out n)) (some m)) q) ∙ f)))
 
-pub of-once : (p : Prog) (s : St) (n : ℕ) (t : St) → Once p s n t → at-once p s n ≡ some t
+pub of-once : (p : Prog) (s : St) (n : ℕ) (t : St) → Once p s n t → at_once p s n ≡ some t
 of-once p s n t x =
-    let f = x .first in
-    opt-is (nth (s .threads) n) none _ (f .stands) ∙ (opt-is (instr p n (f .was)) none _ (instr-is p n (f .was) (f .of) (f .at)) ∙ (opt-is (move p s (next n)) none _ (of-next p s n (x .mid) f) ∙ go (x .then)))
+    let f = x.first in
+    opt-is (nth s.threads n) none _ f.stands ∙ (opt-is (instr p n f.was) none _ (instr-is p n f.was f.of f.at) ∙ (opt-is (move p s (next n)) none _ (of-next p s n x.mid f) ∙ go x.then))
   where
-    go : Ends (x .first .i) (x .mid) n t → pick (is-store (x .first .i)) (move p (x .mid) (out n)) (some (x .mid)) ≡ some t
-    go (inl (q, o)) = ap (λ (z : Bool). pick z (move p (x .mid) (out n)) (some (x .mid))) q ∙ of-out p (x .mid) n t o
-    go (inr (q, e)) = ap (λ (z : Bool). pick z (move p (x .mid) (out n)) (some (x .mid))) q ∙ ap some (sym e)
+    go : Ends x.first.i x.mid n t → pick (is_store x.first.i) (move p x.mid (out n)) (some x.mid) ≡ some t
+    go (inl (q, o)) = ap (λ (z : Bool). pick z (move p x.mid (out n)) (some x.mid)) q ∙ of-out p x.mid n t o
+    go (inr (q, e)) = ap (λ (z : Bool). pick z (move p x.mid (out n)) (some x.mid)) q ∙ ap some (sym e)
 
 -- an instruction is a store, or it isn't
-pub store-or : (i : I) → ((x : ℕ) × (r : ℕ) × (i ≡ stores x r)) ⊎ (is-store i ≡ false)
+pub store-or : (i : I) → ((x : ℕ) × (r : ℕ) × (i ≡ stores x r)) ⊎ (is_store i ≡ false)
 store-or (sets r n) = inr refl
 store-or (adds r x y) = inr refl
 store-or (loads r x) = inr refl
@@ -347,53 +347,53 @@ store-or (stores x r) = inl (x, r, refl)
 store-or fence = inr refl
 
 -- only a store changes what waits
-pub does-waits : (m : List ℕ) (a b : At) (i : I) → is-store i ≡ false → does m a i ≡ some b → b .waits ≡ a .waits
-does-waits m a b (sets r n) h e = ap (λ (z : At). z .waits) (sym (some-is e))
-does-waits m a b (adds r x y) h e = ap (λ (z : At). z .waits) (sym (some-is e))
-does-waits m a b (loads r x) h e = ap (λ (z : At). z .waits) (sym (some-is e))
+pub does-waits : (m : List ℕ) (a b : At) (i : I) → is_store i ≡ false → does m a i ≡ some b → b.waits ≡ a.waits
+does-waits m a b (sets r n) h e = ap (λ (z : At). z.waits) (sym (some_is e))
+does-waits m a b (adds r x y) h e = ap (λ (z : At). z.waits) (sym (some_is e))
+does-waits m a b (loads r x) h e = ap (λ (z : At). z.waits) (sym (some_is e))
 does-waits m a b (stores x r) h e = absurd (false-true (sym h))
-does-waits m a b fence h e = let (q, f) = pick-some (empty (a .waits)) _ e in ap (λ (z : At). z .waits) (sym (some-is f))
+does-waits m a b fence h e = let (q, f) = pick_some (empty a.waits) _ e in ap (λ (z : At). z.waits) (sym (some_is f))
 
-pub does-pc : (m : List ℕ) (a b : At) (i : I) → does m a i ≡ some b → b .pc ≡ suc (a .pc)
-does-pc m a b (sets r n) e = ap (λ (z : At). z .pc) (sym (some-is e))
-does-pc m a b (adds r x y) e = ap (λ (z : At). z .pc) (sym (some-is e))
-does-pc m a b (loads r x) e = ap (λ (z : At). z .pc) (sym (some-is e))
-does-pc m a b (stores x r) e = ap (λ (z : At). z .pc) (sym (some-is e))
-does-pc m a b fence e = let (q, f) = pick-some (empty (a .waits)) _ e in ap (λ (z : At). z .pc) (sym (some-is f))
+pub does-pc : (m : List ℕ) (a b : At) (i : I) → does m a i ≡ some b → b.pc ≡ suc a.pc
+does-pc m a b (sets r n) e = ap (λ (z : At). z.pc) (sym (some_is e))
+does-pc m a b (adds r x y) e = ap (λ (z : At). z.pc) (sym (some_is e))
+does-pc m a b (loads r x) e = ap (λ (z : At). z.pc) (sym (some_is e))
+does-pc m a b (stores x r) e = ap (λ (z : At). z.pc) (sym (some_is e))
+does-pc m a b fence e = let (q, f) = pick_some (empty a.waits) _ e in ap (λ (z : At). z.pc) (sym (some_is f))
 
 -- a step at once that is no store, and one that is
-pub once-plain : (p : Prog) (s : St) (n : ℕ) (a b : At) (c : Thread) (i : I) → nth (s .threads) n ≡ some a → nth p n ≡ some c → nth c (a .pc) ≡ some i → is-store i ≡ false → does (s .mem) a i ≡ some b → at-once p s n ≡ some (with-thread s n b)
+pub once-plain : (p : Prog) (s : St) (n : ℕ) (a b : At) (c : Thread) (i : I) → nth s.threads n ≡ some a → nth p n ≡ some c → nth c a.pc ≡ some i → is_store i ≡ false → does s.mem a i ≡ some b → at_once p s n ≡ some (with-thread s n b)
 once-plain p s n a b c i ea ec ei h e =
     of-once p s n (with-thread s n b) (record { mid = with-thread s n b; first = record { was = a; stands = ea; code = c; of = ec; i = i; at = ei; now = b; did = e; gives = refl }; then = inr (h, refl) })
 
 abbrev pub stored : At → ℕ → ℕ → Wait
 stored a x r = record { place = x; val = reg a r }
 
-pub once-store : (p : Prog) (s : St) (n : ℕ) (a : At) (c : Thread) (x r : ℕ) → nth (s .threads) n ≡ some a → nth p n ≡ some c → nth c (a .pc) ≡ some (stores x r) → a .waits ≡ [] → at-once p s n ≡ some (gone s n (stored a x r) (done a (a .regs) []))
+pub once-store : (p : Prog) (s : St) (n : ℕ) (a : At) (c : Thread) (x r : ℕ) → nth s.threads n ≡ some a → nth p n ≡ some c → nth c a.pc ≡ some (stores x r) → a.waits ≡ [] → at_once p s n ≡ some (gone s n (stored a x r) (done a a.regs []))
 once-store p s n a c x r ea ec ei h =
-    let b = done a (a .regs) (a .waits ++ (stored a x r ∷ [])) in
-    let t = gone s n (stored a x r) (done a (a .regs) []) in
+    let b = done a a.regs (a.waits ++ (stored a x r ∷ [])) in
+    let t = gone s n (stored a x r) (done a a.regs []) in
     let u = with-thread s n b in
-    let end : t ≡ gone u n (stored a x r) (done a (a .regs) []) = ap (λ (z : List At). record { mem = put (s .mem) x (reg a r); threads = z }) (sym (put-put (s .threads) n b (done a (a .regs) []))) in
-    of-once p s n t (record { mid = u; first = record { was = a; stands = ea; code = c; of = ec; i = stores x r; at = ei; now = b; did = refl; gives = refl }; then = inl (refl, record { was = b; stands = nth-put-same (s .threads) n b ea; w = stored a x r; ws = []; line = ap (λ (z : List Wait). z ++ (stored a x r ∷ [])) h; gives = end }) })
+    let end : t ≡ gone u n (stored a x r) (done a a.regs []) = ap (λ (z : List At). record { mem = put s.mem x (reg a r); threads = z }) (sym (put-put s.threads n b (done a a.regs []))) in
+    of-once p s n t (record { mid = u; first = record { was = a; stands = ea; code = c; of = ec; i = stores x r; at = ei; now = b; did = refl; gives = refl }; then = inl (refl, record { was = b; stands = nth-put-same s.threads n b ea; w = stored a x r; ws = []; line = ap (λ (z : List Wait). z ++ (stored a x r ∷ [])) h; gives = end }) })
 
 -- Runs one after the other
 
 pub moves-then : (p : Prog) (s t u : St) (ms ns : List Move) → moves p s ms ≡ some t → moves p t ns ≡ some u → moves p s (ms ++ ns) ≡ some u
-moves-then p s t u [] ns e f = subst (λ (z : St). moves p z ns ≡ some u) (sym (some-is e)) f
+moves-then p s t u [] ns e f = subst (λ (z : St). moves p z ns ≡ some u) (sym (some_is e)) f
 moves-then p s t u (m ∷ ms) ns e f =
     let (v, ev, e1) = opt-some (move p s m) _ e in
     opt-is (move p s m) none _ ev ∙ moves-then p v t u ms ns e1 f
 
-pub all-then : (p : Prog) (s t u : St) (ms ns : List ℕ) → all-at-once p s ms ≡ some t → all-at-once p t ns ≡ some u → all-at-once p s (ms ++ ns) ≡ some u
-all-then p s t u [] ns e f = subst (λ (z : St). all-at-once p z ns ≡ some u) (sym (some-is e)) f
-all-then p s t u (m ∷ ms) ns e f =
-    let (v, ev, e1) = opt-some (at-once p s m) _ e in
-    opt-is (at-once p s m) none _ ev ∙ all-then p v t u ms ns e1 f
+pub all_then : (p : Prog) (s t u : St) (ms ns : List ℕ) → all-at-once p s ms ≡ some t → all-at-once p t ns ≡ some u → all-at-once p s (ms ++ ns) ≡ some u
+all_then p s t u [] ns e f = subst (λ (z : St). all-at-once p z ns ≡ some u) (sym (some_is e)) f
+all_then p s t u (m ∷ ms) ns e f =
+    let (v, ev, e1) = opt-some (at_once p s m) _ e in
+    opt-is (at_once p s m) none _ ev ∙ all_then p v t u ms ns e1 f
 
 -- what every move keeps, a run keeps
 pub moves-keep : (P : St → Type 0) (p : Prog) → ((s t : St) (m : Move) → P s → move p s m ≡ some t → P t) → (s t : St) (ms : List Move) → P s → moves p s ms ≡ some t → P t
-moves-keep P p f s t [] h e = subst P (some-is e) h
+moves-keep P p f s t [] h e = subst P (some_is e) h
 moves-keep P p f s t (m ∷ ms) h e =
     let (u, eu, e1) = opt-some (move p s m) _ e in
     moves-keep P p f u t ms (f s u m h eu) e1
@@ -409,7 +409,7 @@ starts-each R (t ∷ ts) f (suc n) = starts-each (λ k. R (suc k)) ts (λ k. f (
 
 pub starts-fresh : (p : Prog) (n : ℕ) {a : At} → nth (starts p) n ≡ some a → a ≡ fresh
 starts-fresh [] n e = absurd (none-some e)
-starts-fresh (t ∷ ts) zero e = sym (some-is e)
+starts-fresh (t ∷ ts) zero e = sym (some_is e)
 starts-fresh (t ∷ ts) (suc n) e = starts-fresh ts n e
 
 pub starts-length : (p : Prog) → length (starts p) ≡ length p
@@ -424,27 +424,27 @@ empty-is (w ∷ ws) e = absurd (false-true e)
 
 -- the thread stands at the end of its code, and nothing of it waits
 abbrev pub Ended : Thread → At → Type 0
-Ended c a = (a .pc ≡ length c) × (a .waits ≡ [])
+Ended c a = (a.pc ≡ length c) × (a.waits ≡ [])
 
-pub done-at : (p : Prog) (as₁ : List At) (n : ℕ) {c : Thread} → all-done p as₁ ≡ true → nth p n ≡ some c → (a : At) × (nth as₁ n ≡ some a) × Ended c a
-done-at [] as₁ n d e = absurd (none-some e)
-done-at (t ∷ ts) [] n d e = absurd (false-true d)
-done-at (t ∷ ts) (a ∷ as₁) zero d e =
-    let (d1, d2) = and-both (eqb (a .pc) (length t)) _ d in
-    let (d3, d4) = and-both (empty (a .waits)) _ d2 in
-    (a, refl, (eqb-is (a .pc) (length t) d1 ∙ ap length (some-is e), empty-is (a .waits) d3))
-done-at (t ∷ ts) (a ∷ as₁) (suc n) d e =
-    let (d1, d2) = and-both (eqb (a .pc) (length t)) _ d in
-    let (d3, d4) = and-both (empty (a .waits)) _ d2 in
-    done-at ts as₁ n d4 e
+pub done_at : (p : Prog) (as₁ : List At) (n : ℕ) {c : Thread} → all_done p as₁ ≡ true → nth p n ≡ some c → (a : At) × (nth as₁ n ≡ some a) × Ended c a
+done_at [] as₁ n d e = absurd (none-some e)
+done_at (t ∷ ts) [] n d e = absurd (false-true d)
+done_at (t ∷ ts) (a ∷ as₁) zero d e =
+    let (d1, d2) = and_both (eqb a.pc (length t)) _ d in
+    let (d3, d4) = and_both (empty a.waits) _ d2 in
+    (a, refl, (eqb_is a.pc (length t) d1 ∙ ap length (some_is e), empty-is a.waits d3))
+done_at (t ∷ ts) (a ∷ as₁) (suc n) d e =
+    let (d1, d2) = and_both (eqb a.pc (length t)) _ d in
+    let (d3, d4) = and_both (empty a.waits) _ d2 in
+    done_at ts as₁ n d4 e
 
-pub at-done : (p : Prog) (as₁ : List At) → ((n : ℕ) (c : Thread) → nth p n ≡ some c → (a : At) × (nth as₁ n ≡ some a) × Ended c a) → all-done p as₁ ≡ true
-at-done [] as₁ f = refl
-at-done (t ∷ ts) [] f = let (a, e, q) = f 0 t refl in absurd (none-some e)
-at-done (t ∷ ts) (a ∷ as₁) f =
+pub at_done : (p : Prog) (as₁ : List At) → ((n : ℕ) (c : Thread) → nth p n ≡ some c → (a : At) × (nth as₁ n ≡ some a) × Ended c a) → all_done p as₁ ≡ true
+at_done [] as₁ f = refl
+at_done (t ∷ ts) [] f = let (a, e, q) = f 0 t refl in absurd (none-some e)
+at_done (t ∷ ts) (a ∷ as₁) f =
     let (b, e, q) = f 0 t refl in
-    let same : a ≡ b = some-is e in
-    let pc : eqb (a .pc) (length t) ≡ true = ap (λ (z : ℕ). eqb z (length t)) (ap (λ (z : At). z .pc) same ∙ q .0) ∙ eqb-same (length t) in
-    let row : empty (a .waits) ≡ true = ap empty (ap (λ (z : At). z .waits) same ∙ q .1) in
-    let tail : all-done ts as₁ ≡ true = at-done ts as₁ (λ n. f (suc n)) in
+    let same : a ≡ b = some_is e in
+    let pc : eqb a.pc (length t) ≡ true = ap (λ (z : ℕ). eqb z (length t)) (ap (λ (z : At). z.pc) same ∙ q.0) ∙ eqb_same (length t) in
+    let row : empty a.waits ≡ true = ap empty (ap (λ (z : At). z.waits) same ∙ q.1) in
+    let tail : all_done ts as₁ ≡ true = at_done ts as₁ (λ n. f (suc n)) in
     rw (pc, row, tail)

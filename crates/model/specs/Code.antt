@@ -1,13 +1,8 @@
 -- Programs of several threads, and programs as words.
 -- One to four threads of at most eight instructions. Each thread has four registers with numbers from 0 to 15;
 -- all threads share eight places of memory. Everything is 0 at first.
-use mathlib.Core.Path.{_≡_}
-use mathlib.Core.Bool.{Bool, true, false, _&&_, _||_, not}
-use mathlib.Core.List.{List, [], _∷_, _++_}
-use mathlib.Core.Option.{Option, some, none}
-use Prim.Native.Nat.{ℕ, zero, suc, _+_, _*_, _%_}
-use lib.ListN.{length}
-use lib.Dec.{eqb, ltb, leb, T}
+use Rattle.std.specs.Prelude.{◌≡◌, Bool, true, false, ◌&&◌, ◌||◌, not, List, [], ◌∷◌, ◌++◌, ℕ, zero, suc, ◌+◌, ◌*◌, ◌%◌, length, eqb, ltb, leb, T}
+use Rattle.std.proofs.Math.Option.{Option, some, none}
 
 -- the first where the test is true, else the second
 abbrev pub pick : {A : Type 0} → Bool → A → A → A

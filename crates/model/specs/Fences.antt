@@ -1,14 +1,8 @@
 -- Fences put into a program, and which list of them is the fewest and first.
-use mathlib.Core.Path.{_≡_}
-use mathlib.Core.Logic.{_⊎_}
-use mathlib.Core.Bool.{_&&_}
-use mathlib.Core.List.{List, [], _∷_, _++_}
-use mathlib.Core.Option.{some}
-use Prim.Native.Nat.{ℕ, suc, _<_, _≤_}
-use lib.ListN.{length}
-use lib.Dec.{eqb}
-use Rattle·model·specs.Code.{pick, nth, I, fence, Thread, Prog}
-use Rattle·model·specs.Outcomes.{Is-plain}
+use Rattle.std.specs.Prelude.{◌≡◌, ◌⊎◌, ◌&&◌, List, [], ◌∷◌, ◌++◌, ℕ, suc, ◌<◌, ◌≤◌, length, eqb}
+use Rattle.std.proofs.Math.Option.{some}
+use Rattle.model.specs.Code.{pick, nth, I, fence, Thread, Prog}
+use Rattle.model.specs.Outcomes.{Is-plain}
 
 -- a spot for a fence: before the instruction 'index' of thread 'thread'
 pub record Spot : Type 0 where
@@ -17,20 +11,20 @@ pub record Spot : Type 0 where
 
 -- threads before instructions
 abbrev pub Earlier : Spot → Spot → Type 0
-Earlier a b = (a .thread < b .thread) ⊎ ((a .thread ≡ b .thread) × (a .index < b .index))
+Earlier a b = (a.thread < b.thread) ⊎ ((a.thread ≡ b.thread) × (a.index < b.index))
 
 -- a fence for each time that the spot (n, k) stands in the list
 abbrev pub here : List Spot → ℕ → ℕ → List I
 here [] n k = []
-here (s ∷ ss) n k = pick (eqb (s .thread) n && eqb (s .index) k) (fence ∷ here ss n k) (here ss n k)
+here (s ∷ ss) n k = pick (eqb s.thread n && eqb s.index k) (fence ∷ here ss n k) (here ss n k)
 
-abbrev pub put-in : List Spot → ℕ → ℕ → Thread → Thread
-put-in ss n k [] = []
-put-in ss n k (i ∷ is) = here ss n k ++ (i ∷ put-in ss n (suc k) is)
+abbrev pub put_in : List Spot → ℕ → ℕ → Thread → Thread
+put_in ss n k [] = []
+put_in ss n k (i ∷ is) = here ss n k ++ (i ∷ put_in ss n (suc k) is)
 
 abbrev pub fenced-ts : List Spot → ℕ → Prog → Prog
 fenced-ts ss n [] = []
-fenced-ts ss n (t ∷ ts) = put-in ss n 0 t ∷ fenced-ts ss (suc n) ts
+fenced-ts ss n (t ∷ ts) = put_in ss n 0 t ∷ fenced-ts ss (suc n) ts
 
 -- the program with a fence at each spot of the list
 abbrev pub with-fences : List Spot → Prog → Prog
@@ -49,11 +43,11 @@ pub data First : List Spot → List Spot → Type 0 where
 
 -- a list of spots in order, each before an instruction of the program
 abbrev pub Placed : Prog → List Spot → Type 0
-Placed p ss = In-order ss × ((s : Spot) (a b : List Spot) → ss ≡ a ++ (s ∷ b) → (t : Thread) × (nth p (s .thread) ≡ some t) × (s .index < length t))
+Placed p ss = In-order ss × ((s : Spot) (a b : List Spot) → ss ≡ a ++ (s ∷ b) → (t : Thread) × (nth p s.thread ≡ some t) × (s.index < length t))
 
 -- such a list with which the program is plain: it works
 abbrev pub Does-it : Prog → List Spot → Type 0
-Does-it p ss = In-order ss × ((s : Spot) (a b : List Spot) → ss ≡ a ++ (s ∷ b) → (t : Thread) × (nth p (s .thread) ≡ some t) × (s .index < length t)) × Is-plain (with-fences ss p)
+Does-it p ss = In-order ss × ((s : Spot) (a b : List Spot) → ss ≡ a ++ (s ∷ b) → (t : Thread) × (nth p s.thread ≡ some t) × (s.index < length t)) × Is-plain (with-fences ss p)
 
 -- such a list, with none shorter, and none as short before it
 pub record Fewest (p : Prog) (ss : List Spot) : Type 0 where

@@ -1,14 +1,10 @@
 -- Guards in place of fences: a guarded instruction may be done only if nothing of its thread waits. The states are
 -- then the program's own, whatever is guarded, so that all lists of fences can be looked at over one set of states.
-use mathlib.Core.Path.{_≡_}
-use mathlib.Core.Bool.{Bool, true, false, _&&_, _||_, not}
-use mathlib.Core.List.{List, [], _∷_, _++_}
-use mathlib.Core.Option.{Option, some, none}
-use Prim.Native.Nat.{ℕ}
-use lib.Dec.{eqb}
-use Rattle·model·specs.Code.{pick, opt, nth, Prog}
-use Rattle·model·specs.Machine.{At, St, Move, next, out, move, begin, empty, all-done, outcome}
-use Rattle·model·specs.Fences.{Spot}
+use Rattle.std.specs.Prelude.{◌≡◌, Bool, true, false, ◌&&◌, ◌||◌, not, List, [], ◌∷◌, ◌++◌, ℕ, eqb}
+use Rattle.std.proofs.Math.Option.{Option, some, none}
+use Rattle.model.specs.Code.{pick, opt, nth, Prog}
+use Rattle.model.specs.Machine.{At, St, Move, next, out, move, begin, empty, all_done, outcome}
+use Rattle.model.specs.Fences.{Spot}
 
 -- is instruction k of thread n guarded
 abbrev pub Guard : Type 0
@@ -17,11 +13,11 @@ Guard = ℕ → ℕ → Bool
 -- a guard at each spot of a list
 abbrev pub guards : List Spot → Guard
 guards [] n k = false
-guards (s ∷ ss) n k = (eqb (s .thread) n && eqb (s .index) k) || guards ss n k
+guards (s ∷ ss) n k = (eqb s.thread n && eqb s.index k) || guards ss n k
 
 -- no guard forbids the move
 abbrev pub free : Guard → St → Move → Bool
-free g s (next n) = opt (nth (s .threads) n) true (λ a. not (g n (a .pc)) || empty (a .waits))
+free g s (next n) = opt (nth s.threads n) true (λ a. not (g n a.pc) || empty a.waits)
 free g s (out n) = true
 
 -- one move of the machine in which stores wait, under guards
@@ -34,11 +30,11 @@ gmoves g p s (m ∷ ms) = opt (gmove g p s m) none (λ t. gmoves g p t ms)
 
 -- o comes out where stores wait, under guards
 abbrev pub Guarded : Guard → Prog → List ℕ → Type 0
-Guarded g p o = (ms : List Move) × (s : St) × (gmoves g p (begin p) ms ≡ some s) × (all-done p (s .threads) ≡ true) × (outcome s ≡ o)
+Guarded g p o = (ms : List Move) × (s : St) × (gmoves g p (begin p) ms ≡ some s) × (all_done p s.threads ≡ true) × (outcome s ≡ o)
 
 -- the spots that a run passes while something of the thread waits: its hits
 abbrev pub hit : St → Move → List Spot
-hit s (next n) = opt (nth (s .threads) n) [] (λ a. pick (empty (a .waits)) [] (record { thread = n; index = a .pc } ∷ []))
+hit s (next n) = opt (nth s.threads n) [] (λ a. pick (empty a.waits) [] (record { thread = n; index = a.pc } ∷ []))
 hit s (out n) = []
 
 abbrev pub hits : Prog → St → List Move → List Spot

@@ -3,15 +3,9 @@
 -- order holds all events. It keeps program order, but that a read may come before an older write of its thread if no
 -- fence stands between the two. A read has the number of the newest write to its place, by the memory order, among
 -- those before it in that order and those of its own thread before it in the program; or 0 if there is none.
-use mathlib.Core.Path.{_≡_}
-use mathlib.Core.Logic.{_⊎_}
-use mathlib.Core.Bool.{Bool, true, false, _&&_, _||_, not}
-use mathlib.Core.List.{List, [], _∷_, _++_}
-use mathlib.Core.Option.{Option, some, none}
-use Prim.Native.Nat.{ℕ, zero, suc, _+_, _%_, _<_}
-use lib.ListN.{length, replicate}
-use lib.Dec.{eqb, ltb}
-use Rattle·model·specs.Code.{pick, opt, nth, put, I, sets, adds, loads, stores, fence, Thread, Prog}
+use Rattle.std.specs.Prelude.{◌≡◌, ◌⊎◌, Bool, true, false, ◌&&◌, ◌||◌, not, List, [], ◌∷◌, ◌++◌, ℕ, zero, suc, ◌+◌, ◌%◌, ◌<◌, length, replicate, eqb, ltb}
+use Rattle.std.proofs.Math.Option.{Option, some, none}
+use Rattle.model.specs.Code.{pick, opt, nth, put, I, sets, adds, loads, stores, fence, Thread, Prog}
 
 -- an event: the instruction 'index' of thread 'thread', with the number that it read or wrote
 pub record Ev : Type 0 where
@@ -32,7 +26,7 @@ abbrev pub at : List ℕ → ℕ → ℕ
 at rs r = opt (nth rs r) 0 (λ x. x)
 
 abbrev pub with-ev : Ev → Alone → Alone
-with-ev e a = record { regs = a .regs; evs = e ∷ a .evs; left = a .left }
+with-ev e a = record { regs = a.regs; evs = e ∷ a.evs; left = a.left }
 
 -- a read takes the first number given; 0 where none is left
 abbrev pub reads-one : List ℕ → (ℕ → List ℕ → Alone) → Alone
@@ -64,7 +58,7 @@ pub data Before (a b : Ev) : List Ev → Type 0 where
 
 -- the writes that a read r may see: to its place, before it in the order or before it in its own thread
 abbrev pub Sees : List Ev → Ev → Ev → Type 0
-Sees o w r = (w .write ≡ true) × (w .place ≡ r .place) × (Before w r o ⊎ ((w .thread ≡ r .thread) × (w .index < r .index) × In w o))
+Sees o w r = (w.write ≡ true) × (w.place ≡ r.place) × (Before w r o ⊎ ((w.thread ≡ r.thread) × (w.index < r.index) × In w o))
 
 -- o is a memory order of the threads' events all1: it has just these (from, each), each once; it keeps program order,
 -- but that a read may pass an older write of its thread with no fence between (kept); and each read has the newest,
@@ -72,9 +66,9 @@ Sees o w r = (w .write ≡ true) × (w .place ≡ r .place) × (Before w r o ⊎
 pub record Order (p : Prog) (all1 : List (List Ev)) (o : List Ev) : Type 0 where
   pub from : (e : Ev) → In e o → (n : ℕ) × (es : List Ev) × (nth all1 n ≡ some es) × In e es
   pub each : (n : ℕ) (es : List Ev) (e : Ev) → nth all1 n ≡ some es → In e es → In e o
-  pub once : (a b : Ev) → Before a b o → (a .thread ≡ b .thread) × (a .index ≡ b .index) → ⊥
-  pub kept : (n : ℕ) (t : Thread) (es : List Ev) (a b : Ev) → nth p n ≡ some t → nth all1 n ≡ some es → Before a b es → Before a b o ⊎ ((a .write ≡ true) × (b .write ≡ false) × (Fenced t (a .index) (b .index) → ⊥))
-  pub sees : (r : Ev) → In r o → r .write ≡ false → ((w : Ev) × Sees o w r × (w .val ≡ r .val) × ((v : Ev) → Sees o v r → Before w v o → ⊥)) ⊎ ((r .val ≡ 0) × ((w : Ev) → Sees o w r → ⊥))
+  pub once : (a b : Ev) → Before a b o → (a.thread ≡ b.thread) × (a.index ≡ b.index) → ⊥
+  pub kept : (n : ℕ) (t : Thread) (es : List Ev) (a b : Ev) → nth p n ≡ some t → nth all1 n ≡ some es → Before a b es → Before a b o ⊎ ((a.write ≡ true) × (b.write ≡ false) × (Fenced t a.index b.index → ⊥))
+  pub sees : (r : Ev) → In r o → r.write ≡ false → ((w : Ev) × Sees o w r × (w.val ≡ r.val) × ((v : Ev) → Sees o v r → Before w v o → ⊥)) ⊎ ((r.val ≡ 0) × ((w : Ev) → Sees o w r → ⊥))
 
 -- each thread by itself, given what its reads give
 abbrev pub alones : ℕ → Prog → List (List ℕ) → List Alone
@@ -84,13 +78,13 @@ alones n (t ∷ ts) (vs ∷ vss) = alone n 0 t (replicate 4 0) vs ∷ alones (su
 
 abbrev pub evs-of : List Alone → List (List Ev)
 evs-of [] = []
-evs-of (a ∷ as₁) = a .evs ∷ evs-of as₁
+evs-of (a ∷ as₁) = a.evs ∷ evs-of as₁
 
-abbrev pub regs-of : List Alone → List ℕ
-regs-of [] = []
-regs-of (a ∷ as₁) = a .regs ++ regs-of as₁
+abbrev pub regs_of : List Alone → List ℕ
+regs_of [] = []
+regs_of (a ∷ as₁) = a.regs ++ regs_of as₁
 
 -- what the writes leave in memory, done in this order
 abbrev pub writes-in : List Ev → List ℕ → List ℕ
 writes-in [] m = m
-writes-in (e ∷ es) m = writes-in es (pick (e .write) (put m (e .place) (e .val)) m)
+writes-in (e ∷ es) m = writes-in es (pick e.write (put m e.place e.val) m)

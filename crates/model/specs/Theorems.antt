@@ -1,18 +1,12 @@
 -- What is proved of the definitions, as types: one sentence, one theorem.
-use mathlib.Core.Path.{_≡_}
-use mathlib.Core.Logic.{_⊎_, _↔_}
-use mathlib.Core.Bool.{true, false}
-use mathlib.Core.List.{List, [], _∷_}
-use mathlib.Core.Option.{some}
-use Prim.Native.Nat.{ℕ, _+_, _*_, _≤_}
-use lib.ListN.{length}
-use lib.Dec.{T}
-use Rattle·model·specs.Code.{nth, I, stores, fence, ok, size, Thread, Prog, Reads}
-use Rattle·model·specs.Machine.{St, Move, moves, begin, all-done, outcome, all-at-once, is-store}
-use Rattle·model·specs.Outcomes.{Waiting, At-once, By-order, Is-plain, Shows}
-use Rattle·model·specs.Fences.{Spot, with-fences, First, Placed, Does-it, Fewest}
-use Rattle·model·specs.StoreBuffering.{Store-buffering}
-use Rattle·model·specs.Guards.{Guard, guards, gmoves, Guarded, hits, On, Apart, Meets}
+use Rattle.std.specs.Prelude.{◌≡◌, ◌⊎◌, ◌↔◌, true, false, List, [], ◌∷◌, ℕ, ◌+◌, ◌*◌, ◌≤◌, length, T}
+use Rattle.std.proofs.Math.Option.{some}
+use Rattle.model.specs.Code.{nth, I, stores, fence, ok, size, Thread, Prog, Reads}
+use Rattle.model.specs.Machine.{St, Move, moves, begin, all_done, outcome, all-at-once, is_store}
+use Rattle.model.specs.Outcomes.{Waiting, At-once, By-order, Is-plain, Shows}
+use Rattle.model.specs.Fences.{Spot, with-fences, First, Placed, Does-it, Fewest}
+use Rattle.model.specs.StoreBuffering.{Store-buffering}
+use Rattle.model.specs.Guards.{Guard, guards, gmoves, Guarded, hits, On, Apart, Meets}
 
 -- words are at most one program
 abbrev pub One-program : Type 0
@@ -28,9 +22,9 @@ Machine-is-orders = (p : Prog) (o : List ℕ) → T (ok p) → Waiting p o ↔ B
 
 -- with a fence behind every store nothing new comes out
 pub data All-fenced : Thread → Type 0 where
-  none-left : All-fenced []
+  none_left : All-fenced []
   fenced : {x r : ℕ} {t : Thread} → All-fenced t → All-fenced (stores x r ∷ fence ∷ t)
-  other : {i : I} {t : Thread} → is-store i ≡ false → All-fenced t → All-fenced (i ∷ t)
+  other : {i : I} {t : Thread} → is_store i ≡ false → All-fenced t → All-fenced (i ∷ t)
 
 abbrev pub Enough : Type 0
 Enough = (p : Prog) (o : List ℕ) → ((n : ℕ) (t : Thread) → nth p n ≡ some t → All-fenced t) → Waiting p o → At-once p o
@@ -77,15 +71,15 @@ By-clauses = (p : Prog) (cs : List (List Spot)) (ss : List Spot) → Learnt p cs
 
 -- an outcome determines the finished state
 abbrev pub One-end : Type 0
-One-end = (p : Prog) (ms ns : List Move) (s t : St) → moves p (begin p) ms ≡ some s → moves p (begin p) ns ≡ some t → all-done p (s .threads) ≡ true → all-done p (t .threads) ≡ true → outcome s ≡ outcome t → s ≡ t
+One-end = (p : Prog) (ms ns : List Move) (s t : St) → moves p (begin p) ms ≡ some s → moves p (begin p) ns ≡ some t → all_done p s.threads ≡ true → all_done p t.threads ≡ true → outcome s ≡ outcome t → s ≡ t
 
 -- so a program is plain exactly if every finished state that runs come to is come to at once
 abbrev pub Plain-by-states : Type 0
-Plain-by-states = (p : Prog) → Is-plain p ↔ ((ms : List Move) (s : St) → moves p (begin p) ms ≡ some s → all-done p (s .threads) ≡ true → (ns : List ℕ) × (all-at-once p (begin p) ns ≡ some s))
+Plain-by-states = (p : Prog) → Is-plain p ↔ ((ms : List Move) (s : St) → moves p (begin p) ms ≡ some s → all_done p s.threads ≡ true → (ns : List ℕ) × (all-at-once p (begin p) ns ≡ some s))
 
 -- and with fences it is plain exactly if every finished state that runs under the guards come to is come to at once
 abbrev pub By-states : Type 0
-By-states = (ss : List Spot) (p : Prog) → Is-plain (with-fences ss p) ↔ ((ms : List Move) (s : St) → gmoves (guards ss) p (begin p) ms ≡ some s → all-done p (s .threads) ≡ true → (ns : List ℕ) × (all-at-once p (begin p) ns ≡ some s))
+By-states = (ss : List Spot) (p : Prog) → Is-plain (with-fences ss p) ↔ ((ms : List Move) (s : St) → gmoves (guards ss) p (begin p) ms ≡ some s → all_done p s.threads ≡ true → (ns : List ℕ) × (all-at-once p (begin p) ns ≡ some s))
 
 -- a run has at most twice as many moves as the program has instructions
 abbrev pub Run-length : Type 0
@@ -105,8 +99,8 @@ pub record Theorems : Type 0 where
   pub must-hit : Must-hit
   pub some-list-works : Some-list-works
   pub by-clauses : By-clauses
-  pub one-end : One-end
+  pub one_end : One-end
   pub plain-by-states : Plain-by-states
   pub by-states : By-states
-  pub run-length : Run-length
+  pub run_length : Run-length
   pub store-buffering : Store-buffering

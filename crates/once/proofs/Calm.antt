@@ -1,79 +1,75 @@
 -- Steps at once keep every row empty. So one from a state in which nothing waits is a next instruction, and what then
 -- waits going out: a store waits exactly if the instruction was one.
-use mathlib.Core.Path.{_≡_, refl, sym, ap, subst, _∙_}
-use mathlib.Core.Logic.{_⊎_, inl, inr}
-use mathlib.Core.Bool.{true, false}
-use mathlib.Core.List.{List, [], _∷_, _++_}
+use Rattle.std.proofs.Common.{◌≡◌, ℕ, zero, suc, true, false, ◌⊎◌, List, [], ◌∷◌, ◌++◌, sym, refl, ap, ◌∙◌, subst, inl, inr}
 use mathlib.Core.Option.{Option, some, none}
-use Prim.Native.Nat.{ℕ, zero, suc}
-use Rattle·model.specs.Code.{nth, put, I, stores, Prog}
-use Rattle·model.specs.Machine.{Wait, At, St, next, out, done, does, flushed, move, starts, begin, is-store, at-once}
-use Rattle·model.proofs.Tools.{none-some, some-is, opt-is, nth-put-same, put-put, Next, Out, gone, rest-of, stored, next-of, of-next, of-out, once-of, of-once, store-or, does-waits, starts-fresh}
+use Rattle.model.specs.Code.{nth, put, I, stores, Prog}
+use Rattle.model.specs.Machine.{Wait, At, St, next, out, done, does, flushed, move, starts, begin, is_store, at_once}
+use Rattle.model.proofs.Tools.{none-some, some_is, opt-is, nth-put-same, put-put, Next, Out, gone, rest_of, stored, next_of, of-next, of-out, once-of, of-once, store-or, does-waits, starts-fresh}
 
 -- nothing waits
 abbrev pub Calm-ts : List At → Type 0
-Calm-ts as₁ = (n : ℕ) (a : At) → nth as₁ n ≡ some a → a .waits ≡ []
+Calm-ts as₁ = (n : ℕ) (a : At) → nth as₁ n ≡ some a → a.waits ≡ []
 
 abbrev pub Calm : St → Type 0
-Calm s = Calm-ts (s .threads)
+Calm s = Calm-ts s.threads
 
 pub calm-begin : (p : Prog) → Calm (begin p)
-calm-begin p n a e = ap (λ (z : At). z .waits) (starts-fresh p n e)
+calm-begin p n a e = ap (λ (z : At). z.waits) (starts-fresh p n e)
 
-calm-put : (as₁ : List At) (n : ℕ) (b : At) → Calm-ts as₁ → b .waits ≡ [] → Calm-ts (put as₁ n b)
-calm-put [] n b h e m a q = absurd (none-some q)
-calm-put (x ∷ as₁) zero b h e zero a q = ap (λ (z : At). z .waits) (sym (some-is q)) ∙ e
-calm-put (x ∷ as₁) zero b h e (suc m) a q = h (suc m) a q
-calm-put (x ∷ as₁) (suc n) b h e zero a q = h 0 a q
-calm-put (x ∷ as₁) (suc n) b h e (suc m) a q = calm-put as₁ n b (λ k. h (suc k)) e m a q
+calm_put : (as₁ : List At) (n : ℕ) (b : At) → Calm-ts as₁ → b.waits ≡ [] → Calm-ts (put as₁ n b)
+calm_put [] n b h e m a q = absurd (none-some q)
+calm_put (x ∷ as₁) zero b h e zero a q = ap (λ (z : At). z.waits) (sym (some_is q)) ∙ e
+calm_put (x ∷ as₁) zero b h e (suc m) a q = h (suc m) a q
+calm_put (x ∷ as₁) (suc n) b h e zero a q = h 0 a q
+calm_put (x ∷ as₁) (suc n) b h e (suc m) a q = calm_put as₁ n b (λ k. h (suc k)) e m a q
 
 -- after the next instruction of thread n, mid: its store goes out, or nothing can
-abbrev pub Goes-on : Prog → St → ℕ → St → Type 0
-Goes-on p s n mid =
-    ((u : St) × (move p mid (out n) ≡ some u) × (at-once p s n ≡ some u) × Calm u)
-    ⊎ ((move p mid (out n) ≡ none) × (at-once p s n ≡ some mid) × Calm mid)
+abbrev pub Goes_on : Prog → St → ℕ → St → Type 0
+Goes_on p s n mid =
+    ((u : St) × (move p mid (out n) ≡ some u) × (at_once p s n ≡ some u) × Calm u)
+    ⊎ ((move p mid (out n) ≡ none) × (at_once p s n ≡ some mid) × Calm mid)
 
 module _ (p : Prog) (s mid : St) (n : ℕ) (calm : Calm s) (x : Next p s n mid) where
-  stands-then : nth (mid .threads) n ≡ some (x .now)
-  stands-then = ap (λ (z : St). nth (z .threads) n) (x .gives) ∙ nth-put-same (s .threads) n (x .now) (x .stands)
+  stands-then : nth mid.threads n ≡ some x.now
+  stands-then = ap (λ (z : St). nth z.threads n) x.gives ∙ nth-put-same s.threads n x.now x.stands
 
-  was-empty : x .was .waits ≡ []
-  was-empty = calm n (x .was) (x .stands)
+  was-empty : x.was.waits ≡ []
+  was-empty = calm n x.was x.stands
 
-  goes-out : (place r : ℕ) → x .i ≡ stores place r → Goes-on p s n mid
+  goes-out : (place r : ℕ) → x.i ≡ stores place r → Goes_on p s n mid
   goes-out place r q =
-      let w = stored (x .was) place r in
-      let u = gone mid n w (rest-of (x .now) []) in
-      let did : some (done (x .was) (x .was .regs) (x .was .waits ++ (w ∷ []))) ≡ some (x .now) = subst (λ (z : I). does (s .mem) (x .was) z ≡ some (x .now)) q (x .did) in
-      let line : x .now .waits ≡ w ∷ [] = ap (λ (z : At). z .waits) (sym (some-is did)) ∙ ap (λ (z : List Wait). z ++ (w ∷ [])) was-empty in
-      let o : Out mid n u = record { was = x .now; stands = stands-then; w = w; ws = []; line = line; gives = refl } in
-      let same : put (s .threads) n (rest-of (x .now) []) ≡ u .threads = sym (ap (λ (z : St). put (z .threads) n (rest-of (x .now) [])) (x .gives) ∙ put-put (s .threads) n (x .now) (rest-of (x .now) [])) in
+      let w = stored x.was place r in
+      let u = gone mid n w (rest_of x.now []) in
+      let did : some (done x.was x.was.regs (x.was.waits ++ (w ∷ []))) ≡ some x.now = subst (λ (z : I). does s.mem x.was z ≡ some x.now) q x.did in
+      let line : x.now.waits ≡ w ∷ [] = ap (λ (z : At). z.waits) (sym (some_is did)) ∙ ap (λ (z : List Wait). z ++ (w ∷ [])) was-empty in
+      let o : Out mid n u = record { was = x.now; stands = stands-then; w = w; ws = []; line = line; gives = refl } in
+      let same : put s.threads n (rest_of x.now []) ≡ u.threads = sym (ap (λ (z : St). put z.threads n (rest_of x.now [])) x.gives ∙ put-put s.threads n x.now (rest_of x.now [])) in
       inl (
         u,
         of-out p mid n u o,
-        of-once p s n u (record { mid = mid; first = x; then = inl (ap is-store q, o) }),
-        subst Calm-ts same (calm-put (s .threads) n (rest-of (x .now) []) calm refl),
+        of-once p s n u (record { mid = mid; first = x; then = inl (ap is_store q, o) }),
+        subst Calm-ts same (calm_put s.threads n (rest_of x.now []) calm refl),
       )
 
-  goes-not : is-store (x .i) ≡ false → Goes-on p s n mid
+  goes-not : is_store x.i ≡ false → Goes_on p s n mid
   goes-not q =
-      let row : x .now .waits ≡ [] = does-waits (s .mem) (x .was) (x .now) (x .i) q (x .did) ∙ was-empty in
+      let row : x.now.waits ≡ [] = does-waits s.mem x.was x.now x.i q x.did ∙ was-empty in
       inr (
-        opt-is (nth (mid .threads) n) none _ stands-then ∙ ap (flushed mid n (x .now)) row,
+        opt-is (nth mid.threads n) none _ stands-then ∙ ap (flushed mid n x.now) row,
         of-once p s n mid (record { mid = mid; first = x; then = inr (q, refl) }),
-        subst Calm (sym (x .gives)) (calm-put (s .threads) n (x .now) calm row),
+        subst Calm (sym x.gives) (calm_put s.threads n x.now calm row),
       )
 
-  goes-on : Goes-on p s n mid
-  goes-on = elim (store-or (x .i)) [ inl st ↦ goes-out (st .0) (st .1) (st .2) | inr q ↦ goes-not q ]
+  goes_on : Goes_on p s n mid
+  goes_on = elim (store-or x.i) [ inl st ↦ goes-out st.0 st.1 st.2 | inr q ↦ goes-not q ]
 
-pub once-goes-on : (p : Prog) (s mid : St) (n : ℕ) → Calm s → move p s (next n) ≡ some mid → Goes-on p s n mid
-once-goes-on p s mid n calm e = goes-on p s mid n calm (next-of p s n mid e)
+pub once-goes-on : (p : Prog) (s mid : St) (n : ℕ) → Calm s → move p s (next n) ≡ some mid → Goes_on p s n mid
+once-goes-on p s mid n calm e = goes_on p s mid n calm (next_of p s n mid e)
 
 -- where there is no next instruction to do, there is no step at once
-pub once-stuck : (p : Prog) (s : St) (n : ℕ) → move p s (next n) ≡ none → at-once p s n ≡ none
-once-stuck p s n e = go (at-once p s n) refl
+pub once-stuck : (p : Prog) (s : St) (n : ℕ) → move p s (next n) ≡ none → at_once p s n ≡ none
+once-stuck p s n e = go (at_once p s n) refl
   where
-    go : (o : Option St) → at-once p s n ≡ o → at-once p s n ≡ none
+    go : (o : Option St) → at_once p s n ≡ o → at_once p s n ≡ none
     go none f = f
-    go (some t) f = let x = once-of p s n t f in absurd (none-some (sym e ∙ of-next p s n (x .mid) (x .first)))
+    go (some t) f = let x = once-of p s n t f in absurd (none-some (sym e ∙ of-next p s n x.mid x.first))

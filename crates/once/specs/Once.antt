@@ -1,14 +1,10 @@
 -- Marks of the explored states that are come to at once.
-use mathlib.Core.Path.{_≡_}
-use mathlib.Core.Logic.{_↔_}
-use mathlib.Core.List.{List}
-use mathlib.Core.Option.{some}
-use Prim.Native.Nat.{ℕ, _<_}
-use lib.ListN.{length}
-use Rattle·model.specs.Code.{Prog}
-use Rattle·model.specs.Machine.{begin, all-at-once}
-use Rattle·graph.specs.Search.{Marked}
-use Rattle·explore.specs.Found.{state}
+use Rattle.std.specs.Prelude.{◌≡◌, ℕ, ◌<◌, ◌↔◌, List, length}
+use Rattle.std.proofs.Math.Option.{some}
+use Rattle.model.specs.Code.{Prog}
+use Rattle.model.specs.Machine.{begin, all-at-once}
+use Rattle.graph.specs.Search.{Marked}
+use Rattle.explore.specs.Found.{state}
 
 -- of the n states in q those are marked that a run at once comes to, and no others
 abbrev pub Marks-once : Prog → List ℕ → ℕ → List ℕ → Type 0

@@ -1,28 +1,23 @@
 // States that are come to at once, as marks over the kept edges. Where nothing waits, a step at once is a thread's next
 // instruction and, if something of the thread waits then, its going out: two kept edges joined into one.
-ghost use mathlib.Core.Path.{_≡_};
-ghost use mathlib.Core.List.{List};
-ghost use Prim.Native.Nat.{ℕ, _*_, _≤_};
-ghost use lib.ListN.{length, drop};
-ghost use Rattle·program.specs.Meaning.{program};
-ghost use Rattle·explore.specs.Found.{moves-of, Explored};
-ghost use Rattle·once·specs.Once.{Marks-once};
-use graph::rules::Joined;
-use graph::rules::JoinedRule;
-use graph::rules::Kept;
-use graph::rules::KeptRule;
+ghost use Rattle.std.specs.Prelude.{◌≡◌, ℕ, ◌*◌, ◌≤◌, List, length, drop};
+ghost use Rattle.program.specs.Meaning.{program};
+ghost use Rattle.explore.specs.Found.{moves_of, Explored};
+ghost use Rattle.once.specs.Once.{Marks-once};
+
+use graph::rules::{Joined, Kept};
 use graph::search::search;
 use program::threads::Program;
 
 // Marks in `cost`, for the n explored states, those that are come to at once; in `from`, from which state each was.
 pub fn mark_at_once(p: &Program, edges: &[u32], n: usize, cost: &mut [u32], from: &mut [u32])
-    requires explored { ⌜ ((q : List ℕ) × Explored (program (now p)) q (now edges) n) ⌝ }
-    requires held { ⌜ n * moves-of (length (program (now p))) ≤ length (now edges) ⌝ }
-    requires in_cost { ⌜ n ≤ length (now cost) ⌝ }
-    requires in_from { ⌜ n ≤ length (now from) ⌝ }
-    ensures marks { λ _. ⌜ ((q : List ℕ) → Explored (program (now (p .entry))) q (now (edges .entry)) n → Marks-once (program (now (p .entry))) q n (now (cost .exit))) ⌝ }
-    ensures cost_behind { λ _. ⌜ drop n (now (cost .exit)) ≡ drop n (now (cost .entry)) ⌝ }
-    ensures from_behind { λ _. ⌜ drop n (now (from .exit)) ≡ drop n (now (from .entry)) ⌝ }
+    requires explored { (q : List ℕ) × Explored (program p.now) q edges.now n }
+    requires held { n * moves_of (length (program p.now)) ≤ length edges.now }
+    requires in_cost { n ≤ length cost.old }
+    requires in_from { n ≤ length from.old }
+    ensures marks { (q : List ℕ) → Explored (program p.now) q edges.now n → Marks-once (program p.now) q n cost.new }
+    ensures cost_behind { drop n cost.new ≡ drop n cost.old }
+    ensures from_behind { drop n from.new ≡ drop n from.old }
 {
     let rule = Joined {
         rule: Kept {

@@ -1,9 +1,6 @@
 // Events, the reads and writes of a program, and which of two must come first in a memory order.
-use program::instructions::Instruction;
-use program::instructions::Place;
-use program::instructions::Register;
-use std::alloc::AllocError;
-use std::alloc::Global;
+use program::instructions::{Instruction, Place, Register};
+use std::alloc::{AllocError, Global};
 
 // The instruction `index` of thread `thread`, which reads a place into a register or writes a register to a place.
 // `fences` is how many fences stand before it in its thread.

@@ -1,17 +1,12 @@
 // The fewest fences that make a program plain, and of equally many the first list: all lists of spots are tried, the
 // shorter first, by putting the fences in and going through all orders.
-ghost use mathlib.Core.Path.{_≡_};
-ghost use Rattle·std.specs.Of.Vec.{vec-len};
-ghost use Rattle·std.specs.Vec.{made};
+ghost use Rattle.std.specs.Prelude.{◌≡◌, vec_len, OnOk};
+
 use crate::events::Rule;
-use crate::outcomes::Outcomes;
-use crate::outcomes::outcomes_besides;
-use crate::outcomes::outcomes_by;
-use crate::threads::Spot;
-use crate::threads::with_fences;
+use crate::outcomes::{Outcomes, outcomes_besides, outcomes_by};
+use crate::threads::{Spot, with_fences};
 use program::instructions::Instruction;
-use std::alloc::AllocError;
-use std::alloc::Global;
+use std::alloc::{AllocError, Global};
 
 // The list of fences, and what it took to find it.
 #[derive(Drop)]
@@ -73,7 +68,7 @@ fn spots_of(heap: Global, threads: &[Vec<Instruction>]) -> Result<Vec<Spot>, All
 
 // With these fences every outcome is one at once.
 fn works(task: &Task, tried: &mut Fewest) -> Result<bool, AllocError>
-    ensures { λ r. ⌜ made r (λ _. vec-len (now (tried .exit) .spots) ≡ vec-len (now (tried .entry) .spots)) ⌝ }
+    ensures { OnOk result (vec_len tried.new.spots ≡ vec_len tried.old.spots) }
 {
     let fenced = with_fences(task.heap, task.threads, tried.spots.as_slice())?;
     let found = outcomes_besides(

@@ -1,19 +1,14 @@
 // What a memory order makes of a program: the number that each event reads or writes, and the registers and the memory
 // at the end. Which orders there are is not said here.
-ghost use mathlib.Core.Path.{_≡_};
-ghost use Prim.Native.Nat.{_+_, _*_};
-ghost use lib.ListN.{length, getD, set};
-ghost use Rattle·std.specs.Of.Vec.{vec-len};
-ghost use Rattle·std.specs.Vec.{made};
-use crate::events::Event;
-use crate::events::older;
+ghost use Rattle.std.specs.Prelude.{◌≡◌, ◌+◌, ◌*◌, length, IfOk, vec_len, slice_index, slice_set};
+
+use crate::events::{Event, older};
 use program::instructions::Instruction;
-use std::alloc::AllocError;
-use std::alloc::Global;
+use std::alloc::{AllocError, Global};
 
 // The number in a cell; 0 past the end.
 fn cell(cells: &[u32], i: u32) -> u32
-    ensures { λ r. ⌜ r ≡ getD (now (cells .entry)) i 0 ⌝ }
+    ensures { result ≡ slice_index cells.now i }
 {
     if (i as usize) < cells.len() {
         cells[i as usize]
@@ -24,7 +19,7 @@ fn cell(cells: &[u32], i: u32) -> u32
 
 // A number into a cell; nothing changes past the end.
 fn put(cells: &mut [u32], i: u32, number: u32)
-    ensures { λ _. ⌜ now (cells .exit) ≡ set (now (cells .entry)) i number ⌝ }
+    ensures { cells.new ≡ slice_set cells.old i number }
 {
     if (i as usize) < cells.len() {
         cells[i as usize] = number;
@@ -116,7 +111,7 @@ fn numbers_of(
     threads: &[Vec<Instruction>],
     order: &[Event],
 ) -> Result<Vec<u32>, AllocError>
-    ensures { λ r. ⌜ made r (λ v. vec-len v ≡ length (now (order .entry))) ⌝ }
+    ensures { IfOk result (λ v. vec_len v ≡ length order.now) }
 {
     let mut numbers = Vec::new(heap);
     for (at, e) in order.iter().enumerate() {
@@ -143,7 +138,7 @@ pub fn outcome_of(
     threads: &[Vec<Instruction>],
     order: &[Event],
 ) -> Result<Vec<u32>, AllocError>
-    ensures { λ r. ⌜ made r (λ v. vec-len v ≡ 4 * length (now (threads .entry)) + 8) ⌝ }
+    ensures { IfOk result (λ v. vec_len v ≡ 4 * length threads.now + 8) }
 {
     let numbers = numbers_of(heap, threads, order)?;
     let mut outcome = Vec::new(heap);

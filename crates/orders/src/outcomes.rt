@@ -1,17 +1,11 @@
 // All outcomes of a program: every order that a rule allows, made one by one, and what comes out of it. What an order
 // makes of the program is said elsewhere.
-ghost use mathlib.Core.Path.{_≡_};
-ghost use Rattle·std.specs.Of.Vec.{vec-len};
-ghost use Rattle·std.specs.Vec.{made};
-use crate::events::Event;
-use crate::events::Rule;
-use crate::events::events_of;
-use crate::events::must_precede;
-use crate::events::stands_in;
+ghost use Rattle.std.specs.Prelude.{◌≡◌, vec_len, OnOk};
+
+use crate::events::{Event, Rule, events_of, must_precede, stands_in};
 use crate::numbers::outcome_of;
 use program::instructions::Instruction;
-use std::alloc::AllocError;
-use std::alloc::Global;
+use std::alloc::{AllocError, Global};
 use std::collections::BTreeSet;
 
 // An outcome is all registers, thread by thread, and then memory.
@@ -61,7 +55,7 @@ fn may_come(task: &Task, order: &[Event], e: &Event) -> bool {
 // Goes through all orders that begin with this one, and says whether to go on. Of the events that may come next the last
 // is taken first, since a read that passes a write gives something new more often.
 fn extend(task: &Task, order: &mut Vec<Event>, found: &mut Found) -> Result<bool, AllocError>
-    ensures { λ r. ⌜ made r (λ _. vec-len (now (order .exit)) ≡ vec-len (now (order .entry))) ⌝ }
+    ensures { OnOk result (vec_len order.new ≡ vec_len order.old) }
 {
     if order.len() >= task.events.len() {
         let outcome = outcome_of(task.heap, task.threads, order.as_slice())?;

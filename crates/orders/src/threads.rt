@@ -1,13 +1,9 @@
 // Programs as lists of instructions, of any length, so that fences can be put in. What they do is not said here.
-ghost use mathlib.Core.Path.{_≡_};
-ghost use Rattle·std.specs.Of.Vec.{vec-len};
-ghost use Rattle·std.specs.Vec.{made};
-ghost use lib.ListN.{length};
+ghost use Rattle.std.specs.Prelude.{◌≡◌, length, IfOk, vec_len};
+
 use program::instructions::Instruction;
-use program::threads::Program;
-use program::threads::Thread;
-use std::alloc::AllocError;
-use std::alloc::Global;
+use program::threads::{Program, Thread};
+use std::alloc::{AllocError, Global};
 
 // The threads' instructions, in program order.
 pub type Threads = Vec<Vec<Instruction>>;
@@ -20,7 +16,7 @@ pub struct Spot {
 }
 
 fn instructions_of(heap: Global, t: &Thread) -> Result<Vec<Instruction>, AllocError>
-    ensures { λ r. ⌜ made r (λ v. vec-len v ≡ now (t .entry) .len) ⌝ }
+    ensures { IfOk result (λ v. vec_len v ≡ t.now.len) }
 {
     let mut code = Vec::new(heap);
     for k in 0..t.len {
@@ -30,7 +26,7 @@ fn instructions_of(heap: Global, t: &Thread) -> Result<Vec<Instruction>, AllocEr
 }
 
 pub fn threads_of(heap: Global, p: &Program) -> Result<Threads, AllocError>
-    ensures { λ r. ⌜ made r (λ v. vec-len v ≡ now (p .entry) .count) ⌝ }
+    ensures { IfOk result (λ v. vec_len v ≡ p.now.count) }
 {
     let mut threads = Vec::new(heap);
     for n in 0..p.count {
@@ -69,7 +65,7 @@ pub fn with_fences(
     threads: &[Vec<Instruction>],
     spots: &[Spot],
 ) -> Result<Threads, AllocError>
-    ensures { λ r. ⌜ made r (λ v. vec-len v ≡ length (now (threads .entry))) ⌝ }
+    ensures { IfOk result (λ v. vec_len v ≡ length threads.now) }
 {
     let mut fenced = Vec::new(heap);
     for (thread, code) in threads.iter().enumerate() {

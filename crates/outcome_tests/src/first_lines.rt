@@ -1,8 +1,8 @@
 // Fences before first lines: nothing of a thread waits there, so that one there is of no use.
-use fences::looking::Looked;
-use fences::looking::look;
+use fences::looking::{Looked, look};
 use std::alloc::Global;
-use std::test::*;
+use std::process::Abort;
+use std::test::Fail;
 use trials::known::*;
 
 // Store buffering with a fence before the first line of each thread.
@@ -10,7 +10,7 @@ const FENCED_BEFORE_FIRST_LINES: &str =
     "2 4 4 0 0 0 0 0 1 0 3 0 0 0 2 1 1 0 4 4 0 0 0 0 0 1 0 3 1 0 0 2 1 0 0";
 
 // The fewest fences of the program are these: thread and instruction of each.
-fn needs(heap: Global, text: &str, fences: &[u32]) -> Result<(), Fail> {
+fn needs(rt: &impl Abort, heap: Global, text: &str, fences: &[u32]) -> Result<(), Fail> {
     let words = words_in(heap, text)?;
     let mut work = vec![in heap; 0u32; 65_536 + 128 * 1001]?;
     let mut out = [0u32; 256];
@@ -21,14 +21,15 @@ fn needs(heap: Global, text: &str, fences: &[u32]) -> Result<(), Fail> {
     if moves > 64 || count > 32 {
         return Err(Fail::new("more than a program allows"));
     }
-    check_eq(&out[moves..moves + 2 * count], fences)
+    assert_eq!(rt; &out[moves..moves + 2 * count], fences);
+    Ok(())
 }
 
 #[test]
-fn a_fence_before_a_first_line_is_of_no_use(rt: LibcRuntime) -> Result<(), Fail> {
+fn a_fence_before_a_first_line_is_of_no_use(rt: HostRuntime) -> Result<(), Fail> {
     let heap = rt.alloc();
     // were it of use, the first list would be before both first lines
-    needs(heap, STORE_BUFFERING, &[0, 2, 1, 2])?;
+    needs(&rt, heap, STORE_BUFFERING, &[0, 2, 1, 2])?;
     // those that are there already spare none, and move the instructions on by one
-    needs(heap, FENCED_BEFORE_FIRST_LINES, &[0, 3, 1, 3])
+    needs(&rt, heap, FENCED_BEFORE_FIRST_LINES, &[0, 3, 1, 3])
 }

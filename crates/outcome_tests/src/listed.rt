@@ -1,8 +1,6 @@
 // The public call with memory of its own: how many outcomes there are with and without waiting stores, and the rows.
-use fences::listing::Listed;
-use fences::listing::outcomes;
-use std::alloc::AllocError;
-use std::alloc::Global;
+use fences::listing::{Listed, outcomes};
+use std::alloc::{AllocError, Global};
 
 // What the call answered, and the words that it wrote.
 #[derive(Drop)]

@@ -4,13 +4,11 @@ use crate::rows;
 use cli::lines::ForWords;
 use cli::numbers;
 use cli::troubles::Trouble;
-use cli::troubles::TroubleFromAlloc;
-use cli::troubles::TroubleFromWrite;
 use fences::listing::Listed;
 
 // Prints the outcomes in `lent`, a line each.
 fn print_outcomes(
-    rt: &LibcRuntime,
+    rt: &HostRuntime,
     lent: &Lent,
     threads: u32,
     count: usize,
@@ -19,14 +17,14 @@ fn print_outcomes(
     for row in rows::sorted(heap, lent.out.as_slice(), threads, count)?.as_slice() {
         let how = if row.at_once { "both" } else { "waiting" };
         let values = numbers::line(heap, row.values)?;
-        println!(rt, "{how} {values}")?;
+        println!(rt; "{how} {values}")?;
     }
     Ok(())
 }
 
-pub impl ForWords for Lent as LentForWords {
+impl ForWords for Lent {
     // Answers for one program, and ends the answer with an empty line.
-    fn answer(&mut self, rt: &LibcRuntime, words: &[u32]) -> Result<(), Trouble> {
+    fn answer(&mut self, rt: &HostRuntime, words: &[u32]) -> Result<(), Trouble> {
         match self.outcomes(rt.alloc(), words)? {
             Listed::Outcomes(count, _) => {
                 let threads = words.first().copied().unwrap_or(0);

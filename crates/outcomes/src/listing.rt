@@ -2,8 +2,7 @@
 // 4 MiB for the text and its names. Most of it is given back before the rows are sorted and printed, which takes room too.
 use fences::listing;
 use fences::listing::Listed;
-use std::alloc::AllocError;
-use std::alloc::Global;
+use std::alloc::{AllocError, Global};
 
 const WORK: usize = 880_000;
 

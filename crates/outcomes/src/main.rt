@@ -4,20 +4,12 @@ mod listing;
 mod rows;
 mod table;
 
-use crate::by_words::LentForWords;
 use crate::listing::Lent;
-use crate::table::LentForSource;
-use cli::arguments;
-use cli::arguments::Mode;
-use cli::arguments::Request;
-use cli::files;
-use cli::files::ToWords;
-use cli::files::ToWordsForSource;
-use cli::lines;
-use cli::troubles;
+use cli::arguments::{Mode, Request};
+use cli::files::{ForSource, ToWords};
+use cli::lines::ForWords;
 use cli::troubles::Trouble;
-use cli::troubles::TroubleFromAlloc;
-use cli::troubles::TroubleFromWrite;
+use cli::{arguments, files, lines, troubles};
 
 const HELP: &str = "usage: outcomes [--help | --to-words] [FILE..]
        outcomes --words
@@ -37,7 +29,7 @@ file's name.
 
 docs/FORMAT.md says how programs are written.";
 
-fn run(rt: &LibcRuntime) -> Result<(), Trouble> {
+fn run(rt: &HostRuntime) -> Result<(), Trouble> {
     let Request { mode, files } = arguments::asked(rt)?;
     match mode {
         Mode::Help => rt.println(HELP)?,
@@ -54,6 +46,6 @@ fn run(rt: &LibcRuntime) -> Result<(), Trouble> {
     Ok(())
 }
 
-fn main(rt: LibcRuntime) -> Result<(), Trouble> {
+fn main(rt: HostRuntime) -> Result<(), Trouble> {
     troubles::report(&rt, run(&rt))
 }

@@ -1,8 +1,8 @@
 // Outcomes one by one, out of the words that they are told as: 1 where the outcome also comes out at once, else 0; then
 // its values, which are all registers, thread by thread, and memory.
-ghost use Prim.Native.Nat.{_≤_};
-use std::alloc::AllocError;
-use std::alloc::Global;
+ghost use Rattle.std.specs.Prelude.{◌≤◌};
+
+use std::alloc::{AllocError, Global};
 
 // Ordered by its values.
 #[derive(PartialEq, Eq, PartialOrd, Ord, Drop)]
@@ -26,7 +26,7 @@ fn row_of(words: &[u32]) -> Row<'_> {
 
 // How many words each outcome of a program of so many threads takes.
 fn width(threads: u32) -> usize
-    ensures { λ r. ⌜ 9 ≤ r ⌝ }
+    ensures { 9 ≤ result }
 {
     9 + 4 * (threads as usize).min(4)
 }

@@ -3,15 +3,11 @@ use crate::listing::Lent;
 use crate::rows;
 use crate::rows::Row;
 use cli::files::ForSource;
-use cli::shown;
 use cli::shown::Shown;
-use cli::troubles;
 use cli::troubles::Trouble;
-use cli::troubles::TroubleFromAlloc;
-use cli::troubles::TroubleFromWrite;
+use cli::{shown, troubles};
 use fences::listing::Listed;
-use std::alloc::AllocError;
-use std::alloc::Global;
+use std::alloc::{AllocError, Global};
 use text::source::Source;
 use text::words;
 
@@ -38,7 +34,8 @@ fn heading(heap: Global, columns: &[Shown]) -> Result<String, AllocError> {
 fn line(heap: Global, columns: &[Shown], row: &Row<'_>) -> Result<String, AllocError> {
     let mut line = String::new(heap);
     for column in columns {
-        let value = row.values
+        let value = row
+            .values
             .get(column.at)
             .copied()
             .unwrap_or(0)
@@ -52,23 +49,20 @@ fn line(heap: Global, columns: &[Shown], row: &Row<'_>) -> Result<String, AllocE
 // `1 state`, `2 states`.
 fn counted(heap: Global, n: usize, noun: &str) -> Result<String, AllocError> {
     if n == 1 {
-        return format!(heap, "1 {noun}");
+        return format!(in heap; "1 {noun}");
     }
-    format!(heap, "{n} {noun}s")
+    format!(in heap; "{n} {noun}s")
 }
 
 fn summary(heap: Global, all: usize, waiting: usize, states: usize) -> Result<String, AllocError> {
     let at_once = all.saturating_sub(waiting);
     let all = counted(heap, all, "outcome")?;
     let states = counted(heap, states, "state")?;
-    format!(
-        heap,
-        "{all}: {at_once} at once, {waiting} only with waiting stores (*); {states}"
-    )
+    format!(in heap; "{all}: {at_once} at once, {waiting} only with waiting stores (*); {states}")
 }
 
 fn print_table(
-    rt: &LibcRuntime,
+    rt: &HostRuntime,
     source: &Source,
     rows: &[Row<'_>],
     states: usize,
@@ -89,7 +83,7 @@ fn print_table(
 }
 
 // Prints an answer that is no table.
-fn print_short(rt: &LibcRuntime, file: &str, listed: Listed) -> Result<(), Trouble> {
+fn print_short(rt: &HostRuntime, file: &str, listed: Listed) -> Result<(), Trouble> {
     match listed {
         Listed::Crowded => rt.println("crowded: there are more states than 4 MiB hold")?,
         Listed::OutFull => rt.println("out full: there are more outcomes than 4 MiB hold")?,
@@ -98,9 +92,9 @@ fn print_short(rt: &LibcRuntime, file: &str, listed: Listed) -> Result<(), Troub
     Ok(())
 }
 
-pub impl ForSource for Lent as LentForSource {
+impl ForSource for Lent {
     // Prints all outcomes of a program.
-    fn answer(&mut self, rt: &LibcRuntime, file: &str, source: &Source) -> Result<(), Trouble> {
+    fn answer(&mut self, rt: &HostRuntime, file: &str, source: &Source) -> Result<(), Trouble> {
         let heap = rt.alloc();
         let words = words::to_words(heap, source)?;
         let listed = self.outcomes(heap, words.as_slice())?;

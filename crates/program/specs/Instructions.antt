@@ -1,16 +1,14 @@
 -- What an instruction of the code means: one of the model.
-use mathlib.Core.List.{List, map}
-use Prim.Native.Nat.{ℕ}
-use lib.ListN.{take}
-use Rattle·model.specs.Code.{I, sets, adds, loads, stores, fence, Thread}
-use Rattle·program·specs.declared.instructions.Instruction.{Instruction}
-use Rattle·program·specs.declared.instructions.Instruction.the-variants.{Set, Add, Load, Store, Fence}
+use Rattle.std.specs.Prelude.{ℕ, List, map, take}
+use Rattle.model.specs.Code.{I, sets, adds, loads, stores, fence, Thread}
+use Rattle.program.specs.declared.instructions.Instruction.{Instruction}
+use Rattle.program.specs.declared.instructions.Instruction.TheVariants.{Set, Add, Load, Store, Fence}
 
 abbrev pub instruction : Instruction → I
-instruction (Set r n) = sets (r .0) n
-instruction (Add r a b) = adds (r .0) (a .0) (b .0)
-instruction (Load r x) = loads (r .0) (x .0)
-instruction (Store x r) = stores (x .0) (r .0)
+instruction (Set r n) = sets r.0 n
+instruction (Add r a b) = adds r.0 a.0 b.0
+instruction (Load r x) = loads r.0 x.0
+instruction (Store x r) = stores x.0 r.0
 instruction Fence = fence
 
 -- the first n of these instructions

@@ -1,19 +1,13 @@
 -- What reading words promises: what is read, and that nothing else could be; or that nothing can be read.
-use mathlib.Core.Path.{_≡_}
-use mathlib.Core.List.{List, [], _∷_, _++_}
-use Prim.Native.Nat.{ℕ, _+_, _*_, _≤_, _<_}
-use lib.ListN.{length, drop}
-use lib.Dec.{T}
-use mathlib.Core.Option.{some, none}
-use Rattle·model.specs.Code.{opt, nth, I, ok-i, ok-t, row-i, row-t, Prog, Reads}
-use Rattle·model.specs.Code as model
-use Rattle·std.specs.declared.option.Option.{Option}
-use Rattle·std.specs.declared.option.Option.the-variants.{Some, None}
-use Rattle·program·specs.declared.instructions.Instruction.{Instruction}
-use Rattle·program·specs.declared.threads.Thread.{Thread}
-use Rattle·program·specs.declared.threads.Program.{Program}
-use Rattle·program·specs.Instructions.{instruction}
-use Rattle·program·specs.Meaning.{thread, program}
+use Rattle.std.specs.Prelude.{◌≡◌, ℕ, ◌+◌, ◌*◌, ◌<◌, ◌≤◌, T, List, [], ◌∷◌, ◌++◌, length, drop, Some, None, Option}
+use Rattle.std.proofs.Math.Option.{some, none}
+use Rattle.model.specs.Code.{opt, nth, I, ok-i, ok-t, row-i, row-t, Prog, Reads}
+use Rattle.model.specs.Code as model
+use Rattle.program.specs.declared.instructions.Instruction.{Instruction}
+use Rattle.program.specs.declared.threads.Thread.{Thread}
+use Rattle.program.specs.declared.threads.Program.{Program}
+use Rattle.program.specs.Instructions.{instruction}
+use Rattle.program.specs.Meaning.{thread, program}
 
 -- four words that are an instruction
 abbrev pub Reads-i : List ℕ → I → Type 0
@@ -30,7 +24,7 @@ pub record Begins (s : List ℕ) (t : model.Thread) (rest : List ℕ) : Type 0 w
   pub fine : T (ok-t t)
 
 abbrev pub ThreadRead : List ℕ → Option Thread → Type 0
-ThreadRead s (Some t) = Begins s (thread t) (drop (1 + 4 * t .len) s)
+ThreadRead s (Some t) = Begins s (thread t) (drop (1 + 4 * t.len) s)
 ThreadRead s None = (t : model.Thread) (rest : List ℕ) → Begins s t rest → ⊥
 
 abbrev pub ProgramRead : List ℕ → Option Program → Type 0

@@ -1,11 +1,9 @@
 // Threads and programs. One that exists is within the limits: one to four threads of at most eight instructions,
 // registers below 4, numbers below 16, places below 8.
-ghost use mathlib.Core.Path.{_≡_};
-ghost use Prim.Native.Nat.{_≤_};
-ghost use lib.Dec.{T};
-ghost use lib.ListN.{length};
-ghost use Rattle·model.specs.Code.{ok-t};
-ghost use Rattle·program·specs.Instructions.{instructions};
+ghost use Rattle.std.specs.Prelude.{◌≡◌, ◌≤◌, T, length};
+ghost use Rattle.model.specs.Code.{ok-t};
+ghost use Rattle.program.specs.Instructions.{instructions};
+
 use crate::instructions::Instruction;
 
 #[derive(Drop)]

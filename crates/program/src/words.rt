@@ -1,26 +1,19 @@
 // Words to program and back. As words a program is how many threads it has; for each how many instructions, and four
 // words for each of these: 0 register number 0; 1 register first second; 2 register place 0; 3 place register 0;
 // 4 0 0 0.
-ghost use mathlib.Core.Path.{_≡_};
-ghost use mathlib.Core.List.{_∷_, [], _++_};
-ghost use lib.ListN.{length, drop};
-ghost use Rattle·std.specs.Of.Vec.{vec-items};
-ghost use Rattle·std.specs.Vec.{made};
-ghost use Rattle·model.specs.Code.{row-i, row-t, Reads};
-ghost use Rattle·program·specs.Instructions.{instruction};
-ghost use Rattle·program·specs.Meaning.{thread, program};
-ghost use Rattle·program·specs.Post.{InstructionRead, ThreadRead, ProgramRead};
-use crate::instructions::Instruction;
-use crate::instructions::Place;
-use crate::instructions::Register;
-use crate::threads::Program;
-use crate::threads::Thread;
-use std::alloc::AllocError;
-use std::alloc::Global;
+ghost use Rattle.std.specs.Prelude.{◌≡◌, [], ◌∷◌, ◌++◌, length, drop, IfOk, OnOk};
+ghost use Rattle.model.specs.Code.{row-i, row-t, Reads};
+ghost use Rattle.program.specs.Instructions.{instruction};
+ghost use Rattle.program.specs.Meaning.{thread, program};
+ghost use Rattle.program.specs.Post.{InstructionRead, ThreadRead, ProgramRead};
+
+use crate::instructions::{Instruction, Place, Register};
+use crate::threads::{Program, Thread};
+use std::alloc::{AllocError, Global};
 
 // The instruction that four words are, if they are one.
 fn instruction_from_words(code: u32, first: u32, second: u32, third: u32) -> Option<Instruction>
-    ensures { λ r. ⌜ InstructionRead (code ∷ first ∷ second ∷ third ∷ []) r ⌝ }
+    ensures { InstructionRead (code ∷ first ∷ second ∷ third ∷ []) result }
 {
     match code {
         0 if first < 4 && second < 16 && third == 0 => Some(Instruction::Set(
@@ -46,7 +39,7 @@ fn instruction_from_words(code: u32, first: u32, second: u32, third: u32) -> Opt
 
 // The thread that the words from `at` on begin with, if they begin with one.
 fn thread_from_words(words: &[u32], at: usize) -> Option<Thread>
-    ensures { λ r. ⌜ ThreadRead (drop at (now (words .entry))) r ⌝ }
+    ensures { ThreadRead (drop at words.now) result }
 {
     if at >= words.len() {
         return None;
@@ -73,7 +66,7 @@ fn thread_from_words(words: &[u32], at: usize) -> Option<Thread>
 
 // The program that the words are, if they are one.
 pub fn from_words(words: &[u32]) -> Option<Program>
-    ensures { λ r. ⌜ ProgramRead (now (words .entry)) r ⌝ }
+    ensures { ProgramRead words.now result }
 {
     if words.is_empty() {
         return None;
@@ -111,7 +104,7 @@ fn empty_thread() -> Thread {
 
 // The four words of an instruction.
 pub fn instruction_to_words(i: Instruction) -> [u32; 4]
-    ensures { λ r. ⌜ r ≡ row-i (instruction i) ⌝ }
+    ensures { result ≡ row-i (instruction i) }
 {
     match i {
         Instruction::Set(r, n) => [0, r.0, n, 0],
@@ -124,7 +117,7 @@ pub fn instruction_to_words(i: Instruction) -> [u32; 4]
 
 // Adds a thread's words: how many instructions, and each.
 fn push_thread(words: &mut Vec<u32>, t: &Thread) -> Result<(), AllocError>
-    ensures { λ r. ⌜ made r (λ _. vec-items (now (words .exit)) ≡ vec-items (now (words .entry)) ++ (length (thread (now (t .entry))) ∷ row-t (thread (now (t .entry))))) ⌝ }
+    ensures { OnOk result (words.new.items ≡ words.old.items ++ (length (thread t.now) ∷ row-t (thread t.now))) }
 {
     words.push(t.len as u32)?;
     for k in 0..t.len {
@@ -135,7 +128,7 @@ fn push_thread(words: &mut Vec<u32>, t: &Thread) -> Result<(), AllocError>
 
 // The words that the program is. `from_words` gives the program back, since words are at most one program.
 pub fn to_words(heap: Global, p: &Program) -> Result<Vec<u32>, AllocError>
-    ensures { λ r. ⌜ made r (λ v. Reads (vec-items v) (program (now (p .entry)))) ⌝ }
+    ensures { IfOk result (λ v. Reads v.items (program p.now)) }
 {
     let mut words = Vec::new(heap);
     words.push(p.count as u32)?;

@@ -1,59 +1,57 @@
 -- Words hold one state at most, and in one way, so that a state that is known to be there can be had.
-use mathlib.Core.Path.{_≡_, refl}
-use mathlib.Core.HLevel.{×-prop, isProp→PathP, hedberg}
-use mathlib.Core.Logic.{∥∥₁-elim}
-use mathlib.Core.List.{List, [], _∷_, List·isSet}
-use native.Mathlib.Bridge.{le-prop}
-use native.Mathlib.Decide.{ℕ-discrete}
-use Prim.Native.Nat.{ℕ, _+_, _*_, _<_}
-use lib.ListN.{length}
-use Rattle·lent.specs.Nibbles.{All-below}
-use Rattle·model.specs.Code.{Prog}
-use Rattle·model.specs.Machine.{At, St}
-use Rattle·model.proofs.Levels.{run-threads}
-use Rattle·machine.specs.Packed.{pack, Within-at, Within-ts, Within, Packs}
-use Rattle·machine.specs.Post.{Holds}
-use Rattle·machine.proofs.Unpacking.{pack-one}
-use Rattle·replay·specs.Runs.{Reached}
+use Rattle.std.proofs.Common.{◌≡◌, ℕ, ◌+◌, ◌*◌, ◌<◌, List, [], ◌∷◌, length, refl}
+use mathlib.Core.HLevel.{×_prop, is_prop→PathP, hedberg}
+use mathlib.Core.Logic.{∥∥₁_elim}
+use mathlib.Core.List.{is_set}
+use native.Mathlib.Bridge.{le_prop}
+use native.Mathlib.Decide.{ℕ_discrete}
+use Rattle.lent.specs.Nibbles.{All-below}
+use Rattle.model.specs.Code.{Prog}
+use Rattle.model.specs.Machine.{At, St}
+use Rattle.model.proofs.Levels.{run-threads}
+use Rattle.machine.specs.Packed.{pack, Within-at, Within-ts, Within, Packs}
+use Rattle.machine.specs.Post.{Holds}
+use Rattle.machine.proofs.Unpacking.{pack_one}
+use Rattle.replay.specs.Runs.{Reached}
 
 below-prop : (n : ℕ) (xs : List ℕ) → IsProp (All-below n xs)
 below-prop n [] = λ a b. refl
-below-prop n (x ∷ xs) = ×-prop le-prop (below-prop n xs)
+below-prop n (x ∷ xs) = ×_prop le_prop (below-prop n xs)
 
 within-at-prop : (t : At) → IsProp (Within-at t)
 within-at-prop t a b =
     λ i. record {
-      four = hedberg ℕ-discrete _ _ (a .four) (b .four) i;
-      regs = below-prop _ _ (a .regs) (b .regs) i;
-      few = le-prop (a .few) (b .few) i;
-      held = le-prop (a .held) (b .held) i;
-      values = below-prop _ _ (a .values) (b .values) i;
-      places = below-prop _ _ (a .places) (b .places) i;
+      four = hedberg ℕ_discrete _ _ a.four b.four i;
+      regs = below-prop _ _ a.regs b.regs i;
+      few = le_prop a.few b.few i;
+      held = le_prop a.held b.held i;
+      values = below-prop _ _ a.values b.values i;
+      places = below-prop _ _ a.places b.places i;
     }
 
 within-ts-prop : (ts : List At) → IsProp (Within-ts ts)
 within-ts-prop [] = λ a b. refl
-within-ts-prop (t ∷ ts) = ×-prop (within-at-prop t) (within-ts-prop ts)
+within-ts-prop (t ∷ ts) = ×_prop (within-at-prop t) (within-ts-prop ts)
 
 within-prop : (s : St) → IsProp (Within s)
 within-prop s a b =
     λ i. record {
-      eight = hedberg ℕ-discrete _ _ (a .eight) (b .eight) i;
-      mem = below-prop _ _ (a .mem) (b .mem) i;
-      each = within-ts-prop (s .threads) (a .each) (b .each) i;
+      eight = hedberg ℕ_discrete _ _ a.eight b.eight i;
+      mem = below-prop _ _ a.mem b.mem i;
+      each = within-ts-prop s.threads a.each b.each i;
     }
 
 packs-prop : (ws : List ℕ) (s : St) → IsProp (Packs ws s)
-packs-prop ws s = ×-prop (within-prop s) (List·isSet (hedberg ℕ-discrete) (pack s) ws)
+packs-prop ws s = ×_prop (within-prop s) (is_set (hedberg ℕ_discrete) (pack s) ws)
 
-holds-prop : (p : Prog) (ws : List ℕ) → IsProp (Holds p ws)
-holds-prop p ws a b =
-    let e = pack-one ws (a .0) (b .0) (a .1) (b .1) in
+holds_prop : (p : Prog) (ws : List ℕ) → IsProp (Holds p ws)
+holds_prop p ws a b =
+    let e = pack_one ws a.0 b.0 a.1 b.1 in
     let n = length p in
     λ i. (
       e i,
-      isProp→PathP (λ j. Packs ws (e j)) (λ j. packs-prop ws (e j)) (a .1) (b .1) i,
-      isProp→PathP (λ j. length (e j .threads) ≡ n) (λ j. hedberg ℕ-discrete (length (e j .threads)) n) (a .2) (b .2) i,
+      is_prop→PathP (λ j. Packs ws (e j)) (λ j. packs-prop ws (e j)) a.1 b.1 i,
+      is_prop→PathP (λ j. length (e j).threads ≡ n) (λ j. hedberg ℕ_discrete (length (e j).threads) n) a.2 b.2 i,
     )
 
 reached-holds : (p : Prog) (ws : List ℕ) → Reached p ws → Holds p ws
@@ -61,4 +59,4 @@ reached-holds p ws r = let (ms, z) = r in let (s, run, k) = z in (s, k, run-thre
 
 -- the state that some run comes to
 pub held : (p : Prog) (ws : List ℕ) → ∥ Reached p ws ∥₁ → Holds p ws
-held p ws r = ∥∥₁-elim r (holds-prop p ws) (reached-holds p ws)
+held p ws r = ∥∥₁_elim r (holds_prop p ws) (reached-holds p ws)

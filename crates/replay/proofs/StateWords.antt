@@ -1,41 +1,37 @@
 -- The words of a state, which are the first of thirteen.
-use mathlib.Core.Path.{_≡_, refl, sym, ap, subst, _∙_}
-use mathlib.Core.List.{List, [], _∷_, _++_}
+use Rattle.std.proofs.Common.{◌≡◌, ℕ, suc, ◌+◌, ◌-◌, ◌*◌, ◌<◌, ◌≤◌, List, [], ◌∷◌, ◌++◌, length, get_or, take, drop, sym, refl, ap, ◌∙◌, subst, arith}
 use mathlib.Core.Option.{Option, some, none}
-use Prim.Native.Nat.{ℕ, suc, _+_, _-_, _*_, _<_, _≤_}
-use native.Mathlib.Omega.{arith}
-use borrow.Rule.Slice.PartMut.{midOf, putMid}
-use lib.ListN.{length, take, drop, getD}
-use Rattle·std.proofs.shelf.Lists.{length-take-le, getD-take, getD-past}
-use Rattle·std.proofs.shelf.Parts.{take-putMid}
-use Rattle·model.specs.Code.{nth}
-use Rattle·model.specs.Machine.{At, St, outcome}
-use Rattle·program.proofs.Lookup.{nth-past}
-use Rattle·machine.specs.Packed.{Packs, Packs-at, unpack-at}
-use Rattle·machine.proofs.StateLaws.{length-pack, thread-at, thread-is}
+use borrow.Rule.Slice.PartMut.{mid_of, put_mid}
+use Rattle.std.proofs.lemmas.List.{length-take-le, get_or-take, get_or_past}
+use Rattle.std.proofs.lemmas.Slice.{take-put_mid}
+use Rattle.model.specs.Code.{nth}
+use Rattle.model.specs.Machine.{At, St, outcome}
+use Rattle.program.proofs.Lookup.{nth_past}
+use Rattle.machine.specs.Packed.{Packs, Packs-at, unpack-at}
+use Rattle.machine.proofs.StateLaws.{length-pack, thread-at, thread-is}
 
 -- `&words[0..n]`
-pub part-is : (n : ℕ) (ws : List ℕ) → midOf 0 (n - 0) ws ≡ take n ws
+pub part-is : (n : ℕ) (ws : List ℕ) → mid_of 0 (n - 0) ws ≡ take n ws
 part-is n ws = let e : n - 0 ≡ n = omega arith in ap (λ (k : ℕ). take k ws) e
 
-pub part-long : (c : ℕ) (ws : List ℕ) → length ws ≡ 13 → c ≤ 4 → length (midOf 0 (1 + 3 * c - 0) ws) ≡ 1 + 3 * c
+pub part-long : (c : ℕ) (ws : List ℕ) → length ws ≡ 13 → c ≤ 4 → length (mid_of 0 (1 + 3 * c - 0) ws) ≡ 1 + 3 * c
 part-long c ws l h = ap length (part-is (1 + 3 * c) ws) ∙ length-take-le (1 + 3 * c) ws (omega arith)
 
 -- what was written to `&mut words[0..n]`
-pub written-is : (n : ℕ) (ws ys : List ℕ) → length ys ≡ n → take n (putMid 0 (n - 0) ws ys) ≡ ys
-written-is n ws ys e = take-putMid 0 (n - 0) ws ys n (omega arith) (omega arith)
+pub written_is : (n : ℕ) (ws ys : List ℕ) → length ys ≡ n → take n (put_mid 0 (n - 0) ws ys) ≡ ys
+written_is n ws ys e = take-put_mid 0 (n - 0) ws ys n (omega arith) (omega arith)
 
-pub count-is : (c : ℕ) (ws : List ℕ) (s : St) → length ws ≡ 13 → c ≤ 4 → Packs (take (1 + 3 * c) ws) s → length (s .threads) ≡ c
+pub count-is : (c : ℕ) (ws : List ℕ) (s : St) → length ws ≡ 13 → c ≤ 4 → Packs (take (1 + 3 * c) ws) s → length s.threads ≡ c
 count-is c ws s l h k =
     let a = length-pack (take (1 + 3 * c) ws) s k in
     let b = length-take-le (1 + 3 * c) ws (omega arith) in
     omega arith
 
 -- a thread's three words
-same-words : (c n : ℕ) (ws : List ℕ) → n < c → (k : ℕ) → k ≤ 3 → getD (take (1 + 3 * c) ws) (k + 3 * n) 0 ≡ getD ws (k + 3 * n) 0
-same-words c n ws h k l = getD-take (1 + 3 * c) ws (k + 3 * n) 0 (omega arith)
+same-words : (c n : ℕ) (ws : List ℕ) → n < c → (k : ℕ) → k ≤ 3 → get_or (take (1 + 3 * c) ws) (k + 3 * n) 0 ≡ get_or ws (k + 3 * n) 0
+same-words c n ws h k l = get_or-take (1 + 3 * c) ws (k + 3 * n) 0 (omega arith)
 
-pub thread-words : (c n : ℕ) (ws : List ℕ) (s : St) → length ws ≡ 13 → c ≤ 4 → n < c → Packs (take (1 + 3 * c) ws) s → (a : At) × Packs-at (getD ws (1 + 3 * n) 0) (getD ws (2 + 3 * n) 0) (getD ws (3 + 3 * n) 0) a
+pub thread-words : (c n : ℕ) (ws : List ℕ) (s : St) → length ws ≡ 13 → c ≤ 4 → n < c → Packs (take (1 + 3 * c) ws) s → (a : At) × Packs-at (get_or ws (1 + 3 * n) 0) (get_or ws (2 + 3 * n) 0) (get_or ws (3 + 3 * n) 0) a
 thread-words c n ws s l h b k =
     let e = count-is c ws s l h k in
     let (a, f, p) = thread-at (take (1 + 3 * c) ws) s n k (omega arith) in
@@ -43,9 +39,9 @@ thread-words c n ws s l h b k =
     let w1 = w 1 (omega arith) in
     let w2 = w 2 (omega arith) in
     let w3 = w 3 (omega arith) in
-    (a, (p .0, p .1 ∙ cc))
+    (a, (p.0, p.1 ∙ cc))
 
-pub thread-had : (c n : ℕ) (ws : List ℕ) (s : St) (a : At) → length ws ≡ 13 → c ≤ 4 → n < c → Packs (take (1 + 3 * c) ws) s → a ≡ unpack-at (getD ws (1 + 3 * n) 0) (getD ws (2 + 3 * n) 0) (getD ws (3 + 3 * n) 0) → nth (s .threads) n ≡ some a
+pub thread-had : (c n : ℕ) (ws : List ℕ) (s : St) (a : At) → length ws ≡ 13 → c ≤ 4 → n < c → Packs (take (1 + 3 * c) ws) s → a ≡ unpack-at (get_or ws (1 + 3 * n) 0) (get_or ws (2 + 3 * n) 0) (get_or ws (3 + 3 * n) 0) → nth s.threads n ≡ some a
 thread-had c n ws s a l h b k f =
     let e = count-is c ws s l h k in
     let w = same-words c n ws b in
@@ -54,8 +50,8 @@ thread-had c n ws s a l h b k f =
     let w3 = w 3 (omega arith) in
     thread-is (take (1 + 3 * c) ws) s n a k (omega arith) (f ∙ cc)
 
-pub no-thread : (c n : ℕ) (ws : List ℕ) (s : St) → length ws ≡ 13 → c ≤ 4 → c ≤ n → Packs (take (1 + 3 * c) ws) s → nth (s .threads) n ≡ none
-no-thread c n ws s l h b k = let e = count-is c ws s l h k in nth-past (s .threads) n (omega arith)
+pub no-thread : (c n : ℕ) (ws : List ℕ) (s : St) → length ws ≡ 13 → c ≤ 4 → c ≤ n → Packs (take (1 + 3 * c) ws) s → nth s.threads n ≡ none
+no-thread c n ws s l h b k = let e = count-is c ws s l h k in nth_past s.threads n (omega arith)
 
 -- an outcome, written behind one word
 pub outcome-long : (c : ℕ) (o : List ℕ) (s : St) → length o ≡ 25 → c ≤ 4 → take (0 + (9 + 4 * c)) o ≡ 0 ∷ outcome s → length (outcome s) ≡ 8 + 4 * c
@@ -64,10 +60,10 @@ outcome-long c o s l h e =
     let b = length-take-le (0 + (9 + 4 * c)) o (omega arith) in
     omega arith
 
-pub value-past : (c at : ℕ) (o : List ℕ) (s : St) → length o ≡ 25 → c ≤ 4 → 8 + 4 * c ≤ at → take (0 + (9 + 4 * c)) o ≡ 0 ∷ outcome s → 0 ≡ getD (outcome s) at 0
-value-past c at o s l h b e = let a = outcome-long c o s l h e in sym (getD-past (outcome s) at 0 (omega arith))
+pub value-past : (c at : ℕ) (o : List ℕ) (s : St) → length o ≡ 25 → c ≤ 4 → 8 + 4 * c ≤ at → take (0 + (9 + 4 * c)) o ≡ 0 ∷ outcome s → 0 ≡ get_or (outcome s) at 0
+value-past c at o s l h b e = let a = outcome-long c o s l h e in sym (get_or_past (outcome s) at 0 (omega arith))
 
-pub value-is : (c at : ℕ) (o : List ℕ) (s : St) → at < 8 + 4 * c → take (0 + (9 + 4 * c)) o ≡ 0 ∷ outcome s → getD o (at + 1) 0 ≡ getD (outcome s) at 0
+pub value-is : (c at : ℕ) (o : List ℕ) (s : St) → at < 8 + 4 * c → take (0 + (9 + 4 * c)) o ≡ 0 ∷ outcome s → get_or o (at + 1) 0 ≡ get_or (outcome s) at 0
 value-is c at o s b e =
     let g : at + 1 ≡ suc at = omega arith in
-    sym (getD-take (0 + (9 + 4 * c)) o (at + 1) 0 (omega arith)) ∙ ap (λ (z : List ℕ). getD z (at + 1) 0) e ∙ ap (λ (k : ℕ). getD (0 ∷ outcome s) k 0) g
+    sym (get_or-take (0 + (9 + 4 * c)) o (at + 1) 0 (omega arith)) ∙ ap (λ (z : List ℕ). get_or z (at + 1) 0) e ∙ ap (λ (k : ℕ). get_or (0 ∷ outcome s) k 0) g

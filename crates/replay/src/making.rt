@@ -1,9 +1,9 @@
 // A run from its beginning on, move by move.
-ghost use mathlib.Core.List.{[]};
-ghost use mathlib.Core.Path.{_≡_};
-ghost use Rattle·program.specs.Meaning.{program};
-ghost use Rattle·replay·specs.Runs.{told, Comes, Made};
-ghost use Rattle·replay·specs.Post.{state, Replayed};
+ghost use Rattle.std.specs.Prelude.{◌≡◌, []};
+ghost use Rattle.program.specs.Meaning.{program};
+ghost use Rattle.replay.specs.Runs.{told, Comes, Made};
+ghost use Rattle.replay.specs.Post.{state, Replayed};
+
 use crate::runs::Run;
 use crate::steps::step;
 use program::threads::Program;
@@ -11,16 +11,16 @@ use program::threads::Program;
 impl Run {
     // Where every run of the program begins: all is 0.
     pub fn begin(p: Program) -> Run
-        ensures program { λ r. ⌜ r .p ≡ p ⌝ }
-        ensures begins { λ r. ⌜ Comes (program p) [] (state r) ⌝ }
+        ensures program { result.p ≡ p }
+        ensures begins { Comes (program p) [] (state result) }
     {
         Run { p, words: [0; 13] }
     }
 
     // Makes the move that the word tells. False where it can't be made: then the state is as it was.
     pub fn make(&mut self, word: u32) -> bool
-        ensures program { λ _. ⌜ now (self .exit) .p ≡ now (self .entry) .p ⌝ }
-        ensures made { λ r. ⌜ Made (program (now (self .entry) .p)) word (state (now (self .entry))) r (state (now (self .exit))) ⌝ }
+        ensures program { self.new.p ≡ self.old.p }
+        ensures made { Made (program self.old.p) word (state self.old) result (state self.new) }
     {
         let len = 1 + 3 * self.p.count;
         let from = self.words;
@@ -35,7 +35,7 @@ impl Run {
 
 // The run that the words tell, from the beginning on; none where one of its moves can't be made.
 pub fn replayed(p: Program, words: &[u32]) -> Option<Run>
-    ensures { λ r. ⌜ Replayed (program p) (told (now (words .entry))) r ⌝ }
+    ensures { Replayed (program p) (told words.now) result }
 {
     let mut run = Run::begin(p);
     for word in words {

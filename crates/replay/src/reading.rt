@@ -1,10 +1,10 @@
 // What the state that a run has come to holds.
-ghost use mathlib.Core.Path.{_≡_};
-ghost use lib.ListN.{getD};
-ghost use Rattle·model.specs.Machine.{St, all-done, outcome};
-ghost use Rattle·program.specs.Meaning.{program};
-ghost use Rattle·machine.specs.Packed.{Packs};
-ghost use Rattle·replay·specs.Post.{state, ThreadIs};
+ghost use Rattle.std.specs.Prelude.{◌≡◌, slice_index};
+ghost use Rattle.model.specs.Machine.{St, all_done, outcome};
+ghost use Rattle.program.specs.Meaning.{program};
+ghost use Rattle.machine.specs.Packed.{Packs};
+ghost use Rattle.replay.specs.Post.{state, ThreadIs};
+
 use crate::runs::Run;
 use machine::packed::unpack_thread;
 use machine::threads::ThreadState;
@@ -14,14 +14,14 @@ use report::outcomes::write_outcome;
 impl Run {
     // Whether all is done and nothing waits.
     pub fn is_finished(&self) -> bool
-        ensures { λ r. ⌜ ((s : St) → Packs (state (now (self .entry))) s → r ≡ all-done (program (now (self .entry) .p)) (s .threads)) ⌝ }
+        ensures { (s : St) → Packs (state self.now) s → result ≡ all_done (program self.now.p) s.threads }
     {
         finished(&self.p, &self.words[0..1 + 3 * self.p.count])
     }
 
     // Thread `n`, if the program has it.
     pub fn thread(&self, n: usize) -> Option<ThreadState>
-        ensures { λ r. ⌜ ((s : St) → Packs (state (now (self .entry))) s → ThreadIs s n r) ⌝ }
+        ensures { (s : St) → Packs (state self.now) s → ThreadIs s n result }
     {
         if n >= self.p.count {
             return None;
@@ -35,7 +35,7 @@ impl Run {
 
     // What stands at `at` among all registers, thread by thread, and behind them memory; 0 past its end.
     pub fn value(&self, at: usize) -> u32
-        ensures { λ r. ⌜ ((s : St) → Packs (state (now (self .entry))) s → r ≡ getD (outcome s) at 0) ⌝ }
+        ensures { (s : St) → Packs (state self.now) s → result ≡ slice_index (outcome s) at }
     {
         let threads = self.p.count;
         let mut row = [0; 25];

@@ -1,9 +1,8 @@
 // A program, and the state that some run of it comes to.
-ghost use mathlib.Core.Path.{_≡_};
-ghost use Prim.Native.Nat.{_+_, _*_};
-ghost use lib.ListN.{length, take};
-ghost use Rattle·program.specs.Meaning.{program};
-ghost use Rattle·replay·specs.Runs.{Reached};
+ghost use Rattle.std.specs.Prelude.{◌≡◌, ◌+◌, ◌*◌, length, take};
+ghost use Rattle.program.specs.Meaning.{program};
+ghost use Rattle.replay.specs.Runs.{Reached};
+
 use program::threads::Program;
 
 // The state's words are the first 1 + 3 * threads; what stands behind them says nothing.
@@ -12,5 +11,5 @@ pub struct Run {
     pub p: Program,
     pub words: [u32; 13],
     ghost long: { length words ≡ 13 },
-    ghost reached: { ∥ Reached (program p) (take (1 + 3 * p .count) words) ∥₁ },
+    ghost reached: { ∥ Reached (program p) (take (1 + 3 * p.count) words) ∥₁ },
 }

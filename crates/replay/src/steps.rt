@@ -1,23 +1,21 @@
 // One move, by the word that tells it.
-ghost use mathlib.Core.Path.{_≡_};
-ghost use Prim.Native.Nat.{_+_, _*_};
-ghost use lib.ListN.{length};
-ghost use Rattle·model.specs.Machine.{move};
-ghost use Rattle·program.specs.Meaning.{program};
-ghost use Rattle·machine.specs.Post.{Holds, Stepped};
-ghost use Rattle·replay·specs.Runs.{move-told};
-use machine::moves::next;
-use machine::moves::out;
+ghost use Rattle.std.specs.Prelude.{◌≡◌, ◌+◌, ◌*◌, length};
+ghost use Rattle.model.specs.Machine.{move};
+ghost use Rattle.program.specs.Meaning.{program};
+ghost use Rattle.machine.specs.Post.{Holds, Stepped};
+ghost use Rattle.replay.specs.Runs.{move-told};
+
+use machine::moves::{next, out};
 use program::instructions::ThreadNumber;
 use program::threads::Program;
 
 // The move that the word tells, from one state into `to`; false where it can't be made. What is said of a word that
 // tells no thread of the program is true as well: such a move can't be made.
 pub fn step(p: &Program, word: u32, from: &[u32], to: &mut [u32]) -> bool
-    requires long { ⌜ length (now from) ≡ 1 + 3 * now p .count ⌝ }
-    requires same { ⌜ length (now to) ≡ length (now from) ⌝ }
-    requires holds { ⌜ Holds (program (now p)) (now from) ⌝ }
-    ensures { λ r. ⌜ Stepped (λ s. move (program (now (p .entry))) s (move-told word)) (now (from .entry)) r (now (to .exit)) ⌝ }
+    requires long { length from.now ≡ 1 + 3 * p.now.count }
+    requires same { length to.old ≡ length from.now }
+    requires holds { Holds (program p.now) from.now }
+    ensures { Stepped (λ s. move (program p.now) s (move-told word)) from.now result to.new }
 {
     let word = word as usize;
     if word < 4 {

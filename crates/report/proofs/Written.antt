@@ -1,21 +1,17 @@
 -- Fields written one after another, and the registers of threads as the fields of their words.
-use mathlib.Core.Path.{_≡_, refl, sym, ap, _∙_}
-use mathlib.Core.List.{List, [], _∷_, _++_}
+use Rattle.std.proofs.Common.{◌≡◌, ℕ, zero, suc, ◌+◌, ◌*◌, ◌/◌, ◌%◌, ◌<◌, ◌≤◌, List, [], ◌∷◌, ◌++◌, length, get_or, take, drop, set, sym, refl, ap, ◌∙◌, arith}
 use mathlib.Core.Option.{Option, some, none}
-use Prim.Native.Nat.{ℕ, zero, suc, _+_, _*_, _/_, _%_, _<_, _≤_}
-use native.Mathlib.Omega.{arith}
-use lib.ListN.{length, getD, take, drop, set}
-use Rattle·std.proofs.shelf.Lists.{append-assoc, append-nil, take-set, take-more-set, take-all, drop-drop}
-use Rattle·lent.specs.Nibbles.{nibbles}
-use Rattle·model.specs.Code.{nth}
-use Rattle·model.specs.Machine.{At, St, regs-of, outcome}
-use Rattle·machine.specs.Packed.{Packs}
-use Rattle·machine.proofs.PackLaws.{word-parts}
-use Rattle·machine.proofs.StateLaws.{thread-at, length-pack}
-use Rattle·machine.proofs.MoveLaws.{memory-is}
+use Rattle.std.proofs.lemmas.List.{append_assoc, append-nil, take-set, take_more_set, take_all, drop-drop}
+use Rattle.lent.specs.Nibbles.{nibbles}
+use Rattle.model.specs.Code.{nth}
+use Rattle.model.specs.Machine.{At, St, regs_of, outcome}
+use Rattle.machine.specs.Packed.{Packs}
+use Rattle.machine.proofs.PackLaws.{word-parts}
+use Rattle.machine.proofs.StateLaws.{thread-at, length-pack}
+use Rattle.machine.proofs.MoveLaws.{memory-is}
 
 -- one field more
-nibbles-suc : (j w : ℕ) → nibbles (suc j) w ≡ nibbles j w ++ getD (nibbles (suc j) w) j 0 ∷ []
+nibbles-suc : (j w : ℕ) → nibbles (suc j) w ≡ nibbles j w ++ get_or (nibbles (suc j) w) j 0 ∷ []
 unfolding nibbles
 nibbles-suc zero w = refl
 nibbles-suc (suc j) w = ap (λ (l : List ℕ). w % 16 ∷ l) (nibbles-suc j (w / 16))
@@ -24,14 +20,14 @@ pub fields-none : (o : List ℕ) (at w : ℕ) → take (at + 0) o ≡ take at o 
 unfolding nibbles
 fields-none o at w = let p : at + 0 ≡ at = omega arith in ap (λ (n : ℕ). take n o) p ∙ sym (append-nil (take at o))
 
-pub field-more : (o o′ : List ℕ) (at j w v : ℕ) → at + j < length o′ → take (at + j) o′ ≡ take at o ++ nibbles j w → v ≡ getD (nibbles (suc j) w) j 0 → take (at + (j + 1)) (set o′ (at + j) v) ≡ take at o ++ nibbles (j + 1) w
-field-more o o′ at j w v l h e =
+pub field-more : (o o' : List ℕ) (at j w v : ℕ) → at + j < length o' → take (at + j) o' ≡ take at o ++ nibbles j w → v ≡ get_or (nibbles (suc j) w) j 0 → take (at + (j + 1)) (set o' (at + j) v) ≡ take at o ++ nibbles (j + 1) w
+field-more o o' at j w v l h e =
     let p : at + (j + 1) ≡ at + j + 1 = omega arith in
     let q : suc j ≡ j + 1 = omega arith in
-    ap (λ (n : ℕ). take n (set o′ (at + j) v)) p
-    ∙ take-more-set o′ (at + j) v l
+    ap (λ (n : ℕ). take n (set o' (at + j) v)) p
+    ∙ take_more_set o' (at + j) v l
     ∙ ap (λ (z : List ℕ). z ++ v ∷ []) h
-    ∙ append-assoc (take at o) (nibbles j w) (v ∷ [])
+    ∙ append_assoc (take at o) (nibbles j w) (v ∷ [])
     ∙ ap (λ (x : ℕ). take at o ++ (nibbles j w ++ x ∷ [])) e
     ∙ ap (λ (z : List ℕ). take at o ++ z) (sym (nibbles-suc j w))
     ∙ ap (λ (n : ℕ). take at o ++ nibbles n w) q
@@ -49,49 +45,49 @@ drop-further m n a b l e =
 -- the register fields of the first n threads' words
 abbrev pub reg-fields : ℕ → List ℕ → List ℕ
 reg-fields zero ws = []
-reg-fields (suc n) ws = reg-fields n ws ++ nibbles 4 (getD ws (1 + 3 * n) 0)
+reg-fields (suc n) ws = reg-fields n ws ++ nibbles 4 (get_or ws (1 + 3 * n) 0)
 
-regs-more : (as₁ : List At) (n : ℕ) (a : At) → nth as₁ n ≡ some a → regs-of (take (suc n) as₁) ≡ regs-of (take n as₁) ++ a .regs
-regs-more [] n a e = let z : _≡_ {A = ℕ} 0 1 = cc in absurd (omega arith)
-regs-more (b ∷ as₁) zero a e = let f : b ≡ a = cc in append-nil (b .regs) ∙ ap (λ (z : At). z .regs) f
-regs-more (b ∷ as₁) (suc n) a e = ap (λ (z : List ℕ). b .regs ++ z) (regs-more as₁ n a e) ∙ sym (append-assoc (b .regs) (regs-of (take n as₁)) (a .regs))
+regs-more : (as₁ : List At) (n : ℕ) (a : At) → nth as₁ n ≡ some a → regs_of (take (suc n) as₁) ≡ regs_of (take n as₁) ++ a.regs
+regs-more [] n a e = let z : ◌≡◌ {A = ℕ} 0 1 = cc in absurd (omega arith)
+regs-more (b ∷ as₁) zero a e = let f : b ≡ a = cc in append-nil b.regs ∙ ap (λ (z : At). z.regs) f
+regs-more (b ∷ as₁) (suc n) a e = ap (λ (z : List ℕ). b.regs ++ z) (regs-more as₁ n a e) ∙ sym (append_assoc b.regs (regs_of (take n as₁)) a.regs)
 
-fields-are : (ws : List ℕ) (s : St) (n : ℕ) → Packs ws s → n ≤ length (s .threads) → reg-fields n ws ≡ regs-of (take n (s .threads))
+fields-are : (ws : List ℕ) (s : St) (n : ℕ) → Packs ws s → n ≤ length s.threads → reg-fields n ws ≡ regs_of (take n s.threads)
 fields-are ws s zero h l = refl
 fields-are ws s (suc n) h l =
     let (a, e, p) = thread-at ws s n h (omega arith) in
-    let (f, g, r) = word-parts (getD ws (1 + 3 * n) 0) (getD ws (2 + 3 * n) 0) (getD ws (3 + 3 * n) 0) a p in
-    ap (λ (z : List ℕ). z ++ nibbles 4 (getD ws (1 + 3 * n) 0)) (fields-are ws s n h (omega arith))
-    ∙ ap (λ (z : List ℕ). regs-of (take n (s .threads)) ++ z) r
-    ∙ sym (regs-more (s .threads) n a e)
+    let (f, g, r) = word-parts (get_or ws (1 + 3 * n) 0) (get_or ws (2 + 3 * n) 0) (get_or ws (3 + 3 * n) 0) a p in
+    ap (λ (z : List ℕ). z ++ nibbles 4 (get_or ws (1 + 3 * n) 0)) (fields-are ws s n h (omega arith))
+    ∙ ap (λ (z : List ℕ). regs_of (take n s.threads) ++ z) r
+    ∙ sym (regs-more s.threads n a e)
 
 -- once, and the registers of the first n threads, are written
 abbrev pub Written : List ℕ → List ℕ → List ℕ → ℕ → ℕ → ℕ → Type 0
-Written o o′ ws at once n = take (at + (1 + 4 * n)) o′ ≡ take at o ++ (once ∷ reg-fields n ws)
+Written o o' ws at once n = take (at + (1 + 4 * n)) o' ≡ take at o ++ (once ∷ reg-fields n ws)
 
-pub written-none : (o ws : List ℕ) (at once : ℕ) → at < length o → Written (set o at once) (set o at once) ws at once 0
-written-none o ws at once l = take-more-set o at once l ∙ ap (λ (z : List ℕ). z ++ once ∷ []) (sym (take-set o at once))
+pub written_none : (o ws : List ℕ) (at once : ℕ) → at < length o → Written (set o at once) (set o at once) ws at once 0
+written_none o ws at once l = take_more_set o at once l ∙ ap (λ (z : List ℕ). z ++ once ∷ []) (sym (take-set o at once))
 
-pub written-more : (o o₁ o₂ ws : List ℕ) (at once n : ℕ) → Written o o₁ ws at once n → take (at + (1 + 4 * n) + 4) o₂ ≡ take (at + (1 + 4 * n)) o₁ ++ nibbles 4 (getD ws (1 + 3 * n) 0) → Written o o₂ ws at once (n + 1)
+pub written-more : (o o₁ o₂ ws : List ℕ) (at once n : ℕ) → Written o o₁ ws at once n → take (at + (1 + 4 * n) + 4) o₂ ≡ take (at + (1 + 4 * n)) o₁ ++ nibbles 4 (get_or ws (1 + 3 * n) 0) → Written o o₂ ws at once (n + 1)
 written-more o o₁ o₂ ws at once n h e =
     let p : at + (1 + 4 * (n + 1)) ≡ at + (1 + 4 * n) + 4 = omega arith in
     let q : suc n ≡ n + 1 = omega arith in
-    let w = nibbles 4 (getD ws (1 + 3 * n) 0) in
+    let w = nibbles 4 (get_or ws (1 + 3 * n) 0) in
     ap (λ (k : ℕ). take k o₂) p
     ∙ e
     ∙ ap (λ (z : List ℕ). z ++ w) h
-    ∙ append-assoc (take at o) (once ∷ reg-fields n ws) w
+    ∙ append_assoc (take at o) (once ∷ reg-fields n ws) w
     ∙ ap (λ (k : ℕ). take at o ++ (once ∷ reg-fields k ws)) q
 
-pub written-all : (o o₁ o₂ ws : List ℕ) (at once n : ℕ) (s : St) → Packs ws s → length ws ≡ 1 + 3 * n → Written o o₁ ws at once n → take (at + (1 + 4 * n) + 8) o₂ ≡ take (at + (1 + 4 * n)) o₁ ++ nibbles 8 (getD ws 0 0) → take (at + (9 + 4 * n)) o₂ ≡ take at o ++ (once ∷ outcome s)
-written-all o o₁ o₂ ws at once n s k l h e =
+pub written_all : (o o₁ o₂ ws : List ℕ) (at once n : ℕ) (s : St) → Packs ws s → length ws ≡ 1 + 3 * n → Written o o₁ ws at once n → take (at + (1 + 4 * n) + 8) o₂ ≡ take (at + (1 + 4 * n)) o₁ ++ nibbles 8 (get_or ws 0 0) → take (at + (9 + 4 * n)) o₂ ≡ take at o ++ (once ∷ outcome s)
+written_all o o₁ o₂ ws at once n s k l h e =
     let p : at + (9 + 4 * n) ≡ at + (1 + 4 * n) + 8 = omega arith in
     let c = length-pack ws s k in
-    let w = nibbles 8 (getD ws 0 0) in
-    let r : reg-fields n ws ≡ regs-of (s .threads) = fields-are ws s n k (omega arith) ∙ ap regs-of (take-all n (s .threads) (omega arith)) in
+    let w = nibbles 8 (get_or ws 0 0) in
+    let r : reg-fields n ws ≡ regs_of s.threads = fields-are ws s n k (omega arith) ∙ ap regs_of (take_all n s.threads (omega arith)) in
     ap (λ (k : ℕ). take k o₂) p
     ∙ e
     ∙ ap (λ (z : List ℕ). z ++ w) h
-    ∙ append-assoc (take at o) (once ∷ reg-fields n ws) w
+    ∙ append_assoc (take at o) (once ∷ reg-fields n ws) w
     ∙ ap (λ (z : List ℕ). take at o ++ (once ∷ (z ++ w))) r
-    ∙ ap (λ (z : List ℕ). take at o ++ (once ∷ (regs-of (s .threads) ++ z))) (memory-is ws s k)
+    ∙ ap (λ (z : List ℕ). take at o ++ (once ∷ (regs_of s.threads ++ z))) (memory-is ws s k)

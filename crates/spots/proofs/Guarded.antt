@@ -1,78 +1,73 @@
 -- The guards of a mask's spots are its bits, and a list of spots meets another only where masks share a bit.
-use mathlib.Core.Path.{_≡_, refl, sym, ap, subst}
-use mathlib.Core.Bool.{Bool, true, false, _&&_}
-use mathlib.Core.List.{List}
-use Prim.Native.Nat.{ℕ, _+_, _*_, _-_, _^_, _<_}
-use native.Mathlib.Omega.{arith}
-use lib.Bits.{bitAnd}
-use lib.Dec.{T, eqb, ltb}
-use Rattle·std.proofs.shelf.Tests.{ltb-true, lt-ltb, eqb-true, eq-eqb, and-from}
-use Rattle·model.specs.Code.{Prog, ok}
-use Rattle·model.specs.Fences.{Spot, Placed}
-use Rattle·model.specs.Guards.{guards, On, Meets}
-use Rattle·model.proofs.Tools.{and-both}
-use Rattle·model.proofs.RunsUnderGuards.{on-guards, guards-on}
-use Rattle·hitting.specs.Masks.{bit}
-use Rattle·hitting.specs.Spots.{spots-of}
-use Rattle·hitting.proofs.Bits.{bit-shared}
-use Rattle·hitting.proofs.Theorems.{has-spot}
-use Rattle·spots·specs.Masks.{position, spots, mask, masked}
-use Rattle·spots·proofs.Positions.{spot-position, on-spots, spots-on}
-use Rattle·spots·proofs.Lists.{mask-small, spots-mask}
+use Rattle.std.proofs.Common.{◌≡◌, ℕ, ◌+◌, ◌-◌, ◌*◌, ◌^◌, ◌<◌, Bool, true, false, ◌&&◌, T, eqb, ltb, List, sym, refl, ap, subst, arith}
+use lib.Bits.{bit_and}
+use Rattle.std.proofs.lemmas.Bool.{ltb-true, lt-ltb, eqb-true, eq-eqb, and_from}
+use Rattle.model.specs.Code.{Prog, ok}
+use Rattle.model.specs.Fences.{Spot, Placed}
+use Rattle.model.specs.Guards.{guards, On, Meets}
+use Rattle.model.proofs.Tools.{and_both}
+use Rattle.model.proofs.RunsUnderGuards.{on-guards, guards-on}
+use Rattle.hitting.specs.Masks.{bit}
+use Rattle.hitting.specs.Spots.{spots-of}
+use Rattle.hitting.proofs.Bits.{bit-shared}
+use Rattle.hitting.proofs.Theorems.{has-spot}
+use Rattle.spots.specs.Masks.{position, spots, mask, masked}
+use Rattle.spots.proofs.Positions.{spot-position, on-spots, spots-on}
+use Rattle.spots.proofs.Lists.{mask-small, spots-mask}
 
 -- tests that are true together are the same
-same-test : (a b : Bool) → (a ≡ true → b ≡ true) → (b ≡ true → a ≡ true) → a ≡ b
-same-test true b f g = sym (f refl)
-same-test false true f g = g refl
-same-test false false f g = refl
+same_test : (a b : Bool) → (a ≡ true → b ≡ true) → (b ≡ true → a ≡ true) → a ≡ b
+same_test true b f g = sym (f refl)
+same_test false true f g = g refl
+same_test false false f g = refl
 
 -- a spot of a mask, by its bit
-pub on-bit : (x : ℕ) (a : Spot) → x < 2 ^ 32 → On a (spots x) → (a .index < 8) × (position a < 32) × (bit x (31 - position a) ≡ 1)
-on-bit x a l i =
+pub on_bit : (x : ℕ) (a : Spot) → x < 2 ^ 32 → On a (spots x) → (a.index < 8) × (position a < 32) × (bit x (31 - position a) ≡ 1)
+on_bit x a l i =
     let (s, j, e) = on-spots a (spots-of x) i in
-    let (b, o) = has-spot x s l .0 j in
-    let n = ap (λ (z : Spot). z .thread) e in
-    let k = ap (λ (z : Spot). z .index) e in
+    let (b, o) = (has-spot x s l).0 j in
+    let n = ap (λ (z : Spot). z.thread) e in
+    let k = ap (λ (z : Spot). z.index) e in
     let q : s ≡ position a = omega arith in
     (omega arith, omega arith, subst (λ (z : ℕ). bit x (31 - z) ≡ 1) q o)
 
-pub bit-on : (x : ℕ) (a : Spot) → x < 2 ^ 32 → a .index < 8 → position a < 32 → bit x (31 - position a) ≡ 1 → On a (spots x)
-bit-on x a l k b o = subst (λ (z : Spot). On z (spots x)) (spot-position a k) (spots-on (position a) (spots-of x) (has-spot x (position a) l .1 (b, o)))
+pub bit-on : (x : ℕ) (a : Spot) → x < 2 ^ 32 → a.index < 8 → position a < 32 → bit x (31 - position a) ≡ 1 → On a (spots x)
+bit-on x a l k b o = subst (λ (z : Spot). On z (spots x)) (spot-position a k) (spots-on (position a) (spots-of x) ((has-spot x (position a) l).1 (b, o)))
 
 pub guards-masked : (x n k : ℕ) → x < 2 ^ 32 → guards (spots x) n k ≡ masked x n k
-guards-masked x n k l = same-test (guards (spots x) n k) (masked x n k) there back
+guards-masked x n k l = same_test (guards (spots x) n k) (masked x n k) there back
   where
     a : Spot
     a = record { thread = n; index = k }
 
     there : guards (spots x) n k ≡ true → masked x n k ≡ true
     there g =
-        let (i, b, o) = on-bit x a l (guards-on n k (spots x) g) in
-        and-from (ltb k 8) (ltb (8 * n + k) 32 && eqb (bit x (31 - (8 * n + k))) 1) (lt-ltb k 8 i)
-        (and-from (ltb (8 * n + k) 32) (eqb (bit x (31 - (8 * n + k))) 1) (lt-ltb (8 * n + k) 32 b) (eq-eqb (bit x (31 - (8 * n + k))) 1 o))
+        let (i, b, o) = on_bit x a l (guards-on n k (spots x) g) in
+        and_from (ltb k 8) (ltb (8 * n + k) 32 && eqb (bit x (31 - (8 * n + k))) 1) (lt-ltb k 8 i)
+        (and_from (ltb (8 * n + k) 32) (eqb (bit x (31 - (8 * n + k))) 1) (lt-ltb (8 * n + k) 32 b) (eq-eqb (bit x (31 - (8 * n + k))) 1 o))
 
     back : masked x n k ≡ true → guards (spots x) n k ≡ true
     back m =
-        let (i, r) = and-both (ltb k 8) (ltb (8 * n + k) 32 && eqb (bit x (31 - (8 * n + k))) 1) m in
-        let (b, o) = and-both (ltb (8 * n + k) 32) (eqb (bit x (31 - (8 * n + k))) 1) r in
+        let (i, r) = and_both (ltb k 8) (ltb (8 * n + k) 32 && eqb (bit x (31 - (8 * n + k))) 1) m in
+        let (b, o) = and_both (ltb (8 * n + k) 32) (eqb (bit x (31 - (8 * n + k))) 1) r in
         on-guards a (spots x) (bit-on x a l (ltb-true k 8 i) (ltb-true (8 * n + k) 32 b) (eqb-true (bit x (31 - (8 * n + k))) 1 o))
 
 -- c has the bit of every spot of the list that has one
 abbrev pub Covers : ℕ → List Spot → Type 0
-Covers c hs = (a : Spot) → On a hs → a .thread < 4 → a .index < 8 → bit c (31 - position a) ≡ 1
+Covers c hs = (a : Spot) → On a hs → a.thread < 4 → a.index < 8 → bit c (31 - position a) ≡ 1
 
 -- so a clause is met by a bit: by a mask's spots, and by a list placed in a program within the limits
-pub meets-bits : (x c : ℕ) (hs : List Spot) → x < 2 ^ 32 → Covers c hs → Meets (spots x) hs → 0 < bitAnd x c
+pub meets-bits : (x c : ℕ) (hs : List Spot) → x < 2 ^ 32 → Covers c hs → Meets (spots x) hs → 0 < bit_and x c
 meets-bits x c hs l f (a, i, j) =
-    let (k, b, o) = on-bit x a l i in
+    let (k, b, o) = on_bit x a l i in
     bit-shared x c (31 - position a) o (f a j (omega arith) k)
 
-pub meets-mask : (p : Prog) (ss hs : List Spot) (c : ℕ) → T (ok p) → Placed p ss → Covers c hs → Meets ss hs → 0 < bitAnd (mask ss) c
+pub meets-mask : (p : Prog) (ss hs : List Spot) (c : ℕ) → T (ok p) → Placed p ss → Covers c hs → Meets ss hs → 0 < bit_and (mask ss) c
 meets-mask p ss hs c h w f m =
     meets-bits (mask ss) c hs (mask-small p h ss w) f (subst (λ (z : List Spot). Meets z hs) (sym (spots-mask p h ss w)) m)
 
-pub misses-bits : (x c : ℕ) (hs : List Spot) → x < 2 ^ 32 → Covers c hs → bitAnd x c ≡ 0 → Meets (spots x) hs → ⊥
+pub misses-bits : (x c : ℕ) (hs : List Spot) → x < 2 ^ 32 → Covers c hs → bit_and x c ≡ 0 → Meets (spots x) hs → ⊥
 misses-bits x c hs l f e m = let g = meets-bits x c hs l f m in omega arith
 
-pub misses-mask : (p : Prog) (ss hs : List Spot) (c : ℕ) → T (ok p) → Placed p ss → Covers c hs → bitAnd (mask ss) c ≡ 0 → Meets ss hs → ⊥
+pub misses-mask : (p : Prog) (ss hs : List Spot) (c : ℕ) → T (ok p) → Placed p ss → Covers c hs → bit_and (mask ss) c ≡ 0 → Meets ss hs → ⊥
 misses-mask p ss hs c h w f e m = let g = meets-mask p ss hs c h w f m in omega arith

@@ -1,24 +1,20 @@
 -- Lists of spots for fences as the bits of a number below 2 ^ 32. The spot before instruction k of thread n has the
 -- position 8 * n + k and is the bit 31 less that, so that of lists of one length the first is the greatest number.
-use mathlib.Core.Bool.{Bool, _&&_}
-use mathlib.Core.List.{List, [], _∷_, _++_, map}
-use Prim.Native.Nat.{ℕ, zero, suc, _+_, _*_, _-_, _/_, _%_}
-use lib.ListN.{length}
-use lib.Dec.{eqb, ltb}
-use Rattle·model.specs.Code.{Prog}
-use Rattle·model.specs.Fences.{Spot}
-use Rattle·hitting.specs.Masks.{bit}
-use Rattle·hitting.specs.Spots.{mask-of, spots-of}
+use Rattle.std.specs.Prelude.{ℕ, zero, suc, ◌+◌, ◌-◌, ◌*◌, ◌/◌, ◌%◌, Bool, ◌&&◌, List, [], ◌∷◌, ◌++◌, map, length, ◌==◌, nat_lt}
+use Rattle.model.specs.Code.{Prog}
+use Rattle.model.specs.Fences.{Spot}
+use Rattle.hitting.specs.Masks.{bit}
+use Rattle.hitting.specs.Spots.{mask-of, spots-of}
 
-abbrev pub spot-of : ℕ → Spot
-spot-of s = record { thread = s / 8; index = s % 8 }
+abbrev pub spot_of : ℕ → Spot
+spot_of s = record { thread = s / 8; index = s % 8 }
 
 abbrev pub position : Spot → ℕ
-position a = 8 * a .thread + a .index
+position a = 8 * a.thread + a.index
 
 -- the spots of a mask, in order
 abbrev pub spots : ℕ → List Spot
-spots x = map spot-of (spots-of x)
+spots x = map spot_of (spots-of x)
 
 -- the mask that has these spots
 abbrev pub mask : List Spot → ℕ
@@ -40,4 +36,4 @@ every-spot p = mask-of (rows 0 p)
 
 -- is the spot before instruction k of thread n one of the mask g
 abbrev pub masked : ℕ → ℕ → ℕ → Bool
-masked g n k = ltb k 8 && (ltb (8 * n + k) 32 && eqb (bit g (31 - (8 * n + k))) 1)
+masked g n k = nat_lt k 8 && (nat_lt (8 * n + k) 32 && bit g (31 - (8 * n + k)) == 1)

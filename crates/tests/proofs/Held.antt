@@ -1,22 +1,19 @@
 -- All words 0 hold a state of the program, the one where every run begins.
-use mathlib.Core.Path.{_≡_, refl, sym, ap, subst, _∙_}
-use mathlib.Core.List.{List, [], _∷_}
-use Prim.Native.Nat.{ℕ, suc, _+_, _*_}
-use lib.ListN.{length, replicate}
-use Rattle·model.specs.Code.{Prog}
-use Rattle·model.specs.Machine.{begin, starts}
-use Rattle·program.specs.declared.threads.Program.{Program}
-use Rattle·program.specs.Meaning.{program}
-use Rattle·program.proofs.WriteWords.{length-program}
-use Rattle·machine.specs.Packed.{Packs}
-use Rattle·machine.specs.Post.{Holds}
-use Rattle·machine.proofs.Unpacking.{start-packs}
+use Rattle.std.proofs.Common.{◌≡◌, ℕ, suc, ◌+◌, ◌*◌, List, [], ◌∷◌, length, replicate, sym, refl, ap, ◌∙◌, subst}
+use Rattle.model.specs.Code.{Prog}
+use Rattle.model.specs.Machine.{begin, starts}
+use Rattle.program.specs.declared.threads.Program.{Program}
+use Rattle.program.specs.Meaning.{program}
+use Rattle.program.proofs.WriteWords.{length-program}
+use Rattle.machine.specs.Packed.{Packs}
+use Rattle.machine.specs.Post.{Holds}
+use Rattle.machine.proofs.Unpacking.{start-packs}
 
 length-starts : (p : Prog) → length (starts p) ≡ length p
 length-starts [] = refl
 length-starts (t ∷ ts) = ap suc (length-starts ts)
 
-pub holds-at-first : (p : Program) (ws : List ℕ) → ws ≡ replicate (1 + 3 * p .count) 0 → Holds (program p) ws
+pub holds-at-first : (p : Program) (ws : List ℕ) → ws ≡ replicate (1 + 3 * p.count) 0 → Holds (program p) ws
 holds-at-first p ws e =
     let b = begin (program p) in
     let f = e ∙ ap (λ n. replicate (1 + 3 * n) 0) (sym (length-program p)) in

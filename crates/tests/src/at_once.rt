@@ -1,14 +1,12 @@
 // Runs at once: a store goes to memory in the step that does it.
-use crate::play::Turn::AtOnce;
-use crate::play::Turn::Next;
-use crate::runs::Run;
-use crate::runs::check_runs;
-use std::test::*;
+use crate::play::Turn::{AtOnce, Next};
+use crate::runs::{Run, check_runs};
+use std::test::Fail;
 
 const STORE_AND_LOAD: &[[u32; 4]] = &[[0, 0, 5, 0], [3, 2, 0, 0], [2, 1, 2, 0]];
 
 #[test]
-fn at_once(rt: LibcRuntime) -> Result<(), Fail> {
+fn at_once(rt: HostRuntime) -> Result<(), Fail> {
     let runs = [
         // nothing is done behind the last instruction
         Run {
@@ -57,18 +55,16 @@ fn at_once(rt: LibcRuntime) -> Result<(), Fail> {
         },
         // eight instructions, seven of them stores
         Run {
-            threads: &[
-                &[
-                    [0, 0, 15, 0],
-                    [3, 1, 0, 0],
-                    [3, 2, 0, 0],
-                    [3, 3, 0, 0],
-                    [3, 4, 0, 0],
-                    [3, 5, 0, 0],
-                    [3, 6, 0, 0],
-                    [3, 7, 0, 0],
-                ],
-            ],
+            threads: &[&[
+                [0, 0, 15, 0],
+                [3, 1, 0, 0],
+                [3, 2, 0, 0],
+                [3, 3, 0, 0],
+                [3, 4, 0, 0],
+                [3, 5, 0, 0],
+                [3, 6, 0, 0],
+                [3, 7, 0, 0],
+            ]],
             turns: &[AtOnce(0); 9],
             made: 8,
             state: &[0xffff_fff0, 0x8_000f, 0, 0],
@@ -105,5 +101,5 @@ fn at_once(rt: LibcRuntime) -> Result<(), Fail> {
             state: &[0, 0x12_0001, 1, 0],
         },
     ];
-    check_runs(rt.alloc(), &runs)
+    check_runs(&rt, rt.alloc(), &runs)
 }

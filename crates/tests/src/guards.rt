@@ -1,10 +1,7 @@
 // Runs under guards: a guarded instruction is done only if nothing of its thread waits.
-use crate::play::Turn::Guarded;
-use crate::play::Turn::Next;
-use crate::play::Turn::Out;
-use crate::runs::Run;
-use crate::runs::check_runs;
-use std::test::*;
+use crate::play::Turn::{Guarded, Next, Out};
+use crate::runs::{Run, check_runs};
+use std::test::Fail;
 
 // Each thread stores 1 and then reads where the other stored.
 const STORE_BUFFERING: &[&[[u32; 4]]] = &[
@@ -15,7 +12,7 @@ const STORE_BUFFERING: &[&[[u32; 4]]] = &[
 const BOTH_READ_0: &[u32] = &[0x11, 0x3_0001, 0, 0, 0x3_0001, 0, 0];
 
 #[test]
-fn guarded_instructions(rt: LibcRuntime) -> Result<(), Fail> {
+fn guarded_instructions(rt: HostRuntime) -> Result<(), Fail> {
     let runs = [
         // while a store of its thread waits, a guarded instruction is not done, whatever it is
         Run {
@@ -94,13 +91,13 @@ fn guarded_instructions(rt: LibcRuntime) -> Result<(), Fail> {
             state: &[0, 0, 0, 0, 0, 0, 0, 0, 0, 0, 0x77_0000, 0, 0x777_7777],
         },
     ];
-    check_runs(rt.alloc(), &runs)
+    check_runs(&rt, rt.alloc(), &runs)
 }
 
 // Nothing of a thread waits before its first instruction, so that a guard there, as a fence there, forbids nothing: both
 // threads still read 0.
 #[test]
-fn first_instructions_guarded_in_vain(rt: LibcRuntime) -> Result<(), Fail> {
+fn first_instructions_guarded_in_vain(rt: HostRuntime) -> Result<(), Fail> {
     let runs = [
         Run {
             threads: STORE_BUFFERING,
@@ -156,5 +153,5 @@ fn first_instructions_guarded_in_vain(rt: LibcRuntime) -> Result<(), Fail> {
             state: &[0, 0x12_0001, 1, 0, 0x12_0001, 1, 1],
         },
     ];
-    check_runs(rt.alloc(), &runs)
+    check_runs(&rt, rt.alloc(), &runs)
 }

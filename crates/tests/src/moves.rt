@@ -1,10 +1,8 @@
 // Runs of the machine. Each tells the right outcome from the one that a wrong machine would come to.
 use crate::play::Turn;
-use crate::play::Turn::Next;
-use crate::play::Turn::Out;
-use crate::runs::Run;
-use crate::runs::check_runs;
-use std::test::*;
+use crate::play::Turn::{Next, Out};
+use crate::runs::{Run, check_runs};
+use std::test::Fail;
 
 // Eight instructions, and then eight stores going.
 const EIGHT_AND_EIGHT: &[Turn] = &[
@@ -83,7 +81,7 @@ const TWO_STORES: &[[u32; 4]] = &[
 const STORE_AND_FENCE: &[[u32; 4]] = &[[0, 0, 1, 0], [3, 0, 0, 0], [4, 0, 0, 0]];
 
 #[test]
-fn edges(rt: LibcRuntime) -> Result<(), Fail> {
+fn edges(rt: HostRuntime) -> Result<(), Fail> {
     let runs = [
         // a thread does no more than it has to do, and lets no store go where none waits
         Run {
@@ -107,31 +105,27 @@ fn edges(rt: LibcRuntime) -> Result<(), Fail> {
         },
         // a register may be all that a sum names, and of two sums only the greater loses its 16
         Run {
-            threads: &[
-                &[
-                    [0, 3, 15, 0],
-                    [1, 3, 3, 3],
-                    [0, 0, 1, 0],
-                    [1, 2, 3, 0],
-                    [1, 1, 2, 0],
-                ],
-            ],
+            threads: &[&[
+                [0, 3, 15, 0],
+                [1, 3, 3, 3],
+                [0, 0, 1, 0],
+                [1, 2, 3, 0],
+                [1, 1, 2, 0],
+            ]],
             turns: &[Next(0); 5],
             made: 5,
             state: &[0, 0x5_ef01, 0, 0],
         },
         // a number put over another leaves nothing of it, and the registers beside it as they are
         Run {
-            threads: &[
-                &[
-                    [0, 0, 15, 0],
-                    [0, 1, 15, 0],
-                    [0, 2, 15, 0],
-                    [0, 3, 15, 0],
-                    [0, 1, 0, 0],
-                    [0, 2, 8, 0],
-                ],
-            ],
+            threads: &[&[
+                [0, 0, 15, 0],
+                [0, 1, 15, 0],
+                [0, 2, 15, 0],
+                [0, 3, 15, 0],
+                [0, 1, 0, 0],
+                [0, 2, 8, 0],
+            ]],
             turns: &[Next(0); 6],
             made: 6,
             state: &[0, 0x6_f80f, 0, 0],
@@ -256,11 +250,11 @@ fn edges(rt: LibcRuntime) -> Result<(), Fail> {
             state: &[0, 0x18_0990, 9, 3],
         },
     ];
-    check_runs(rt.alloc(), &runs)
+    check_runs(&rt, rt.alloc(), &runs)
 }
 
 #[test]
-fn waiting_stores(rt: LibcRuntime) -> Result<(), Fail> {
+fn waiting_stores(rt: HostRuntime) -> Result<(), Fail> {
     let runs = [
         // a thread sees its own store that waits: 5, and not memory's 0
         Run {
@@ -342,5 +336,5 @@ fn waiting_stores(rt: LibcRuntime) -> Result<(), Fail> {
             state: &[0x11, 0x3_0001, 0, 0, 0x3_0001, 0, 0],
         },
     ];
-    check_runs(rt.alloc(), &runs)
+    check_runs(&rt, rt.alloc(), &runs)
 }

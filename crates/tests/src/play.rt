@@ -1,14 +1,11 @@
 // Runs of the machine for examples: chosen moves, one after the other, from where every run begins.
-ghost use mathlib.Core.Path.{_≡_};
-ghost use mathlib.Core.Bool.{true};
-ghost use Prim.Native.Nat.{_+_, _*_};
-ghost use lib.ListN.{length};
-ghost use Rattle·program.specs.Meaning.{program};
-ghost use Rattle·machine.specs.Post.{Holds};
+ghost use Rattle.std.specs.Prelude.{◌≡◌, ◌+◌, ◌*◌, true, length};
+ghost use Rattle.program.specs.Meaning.{program};
+ghost use Rattle.machine.specs.Post.{Holds};
+
 use machine::at_once::at_once;
 use machine::guarded::guarded;
-use machine::moves::next;
-use machine::moves::out;
+use machine::moves::{next, out};
 use program::instructions::ThreadNumber;
 use program::threads::Program;
 
@@ -26,10 +23,10 @@ pub enum Turn {
 
 // One move from a state into `to`; false where it can't be made, or the program has no such thread.
 fn make(p: &Program, turn: Turn, from: &[u32], to: &mut [u32]) -> bool
-    requires long { ⌜ length (now from) ≡ 1 + 3 * now p .count ⌝ }
-    requires same { ⌜ length (now to) ≡ length (now from) ⌝ }
-    requires holds { ⌜ Holds (program (now p)) (now from) ⌝ }
-    ensures { λ r. ⌜ (r ≡ true → Holds (program (now (p .entry))) (now (to .exit))) ⌝ }
+    requires long { length from.now ≡ 1 + 3 * p.now.count }
+    requires same { length to.old ≡ length from.now }
+    requires holds { Holds (program p.now) from.now }
+    ensures { result ≡ true → Holds (program p.now) to.new }
 {
     match turn {
         Turn::Next(n) if n < p.count => next(p, ThreadNumber(n), from, to),
@@ -43,8 +40,8 @@ fn make(p: &Program, turn: Turn, from: &[u32], to: &mut [u32]) -> bool
 // Makes the moves up to the first that can't be made, and answers how many. The state that they lead to is left in
 // `state`; `spare` is of use on the way only.
 pub fn play(p: &Program, turns: &[Turn], state: &mut [u32], spare: &mut [u32]) -> usize
-    requires long { ⌜ length (now state) ≡ 1 + 3 * now p .count ⌝ }
-    requires same { ⌜ length (now spare) ≡ length (now state) ⌝ }
+    requires long { length state.old ≡ 1 + 3 * p.now.count }
+    requires same { length spare.old ≡ length state.old }
 {
     state.fill(0);
     for i in 0..turns.len() {

@@ -1,9 +1,9 @@
 // Runs to try, and what each must come to.
-use crate::play::Turn;
-use crate::play::play;
+use crate::play::{Turn, play};
 use program::words::from_words;
 use std::alloc::Global;
-use std::test::*;
+use std::process::Abort;
+use std::test::Fail;
 
 // A program as rows of four words, moves, how many of them can be made, and the state after these: memory's word, and
 // three words for each thread. In hexadecimal the digits of memory's word are the places, place 0 the last. The last
@@ -30,7 +30,7 @@ fn words_of(heap: Global, threads: &[&[[u32; 4]]]) -> Result<Vec<u32>, Fail> {
     Ok(words)
 }
 
-fn check_run(heap: Global, run: Run<'_>) -> Result<(), Fail> {
+fn check_run(rt: &impl Abort, heap: Global, run: Run<'_>) -> Result<(), Fail> {
     let words = words_of(heap, run.threads)?;
     let Some(p) = from_words(words.as_slice()) else {
         return Err(Fail::new("refused"));
@@ -40,13 +40,14 @@ fn check_run(heap: Global, run: Run<'_>) -> Result<(), Fail> {
     let mut second = [0; 13];
     let state = &mut first[0..width];
     let made = play(&p, run.turns, state, &mut second[0..width]);
-    check_eq(made, run.made)?;
-    check_eq(&*state, run.state)
+    assert_eq!(rt; made, run.made);
+    assert_eq!(rt; &*state, run.state);
+    Ok(())
 }
 
-pub fn check_runs(heap: Global, runs: &[Run<'_>]) -> Result<(), Fail> {
+pub fn check_runs(rt: &impl Abort, heap: Global, runs: &[Run<'_>]) -> Result<(), Fail> {
     for (i, run) in runs.iter().enumerate() {
-        check_run(heap, *run).note(format_args!("run {i}"))?;
+        check_run(rt, heap, *run).note(format_args!("run {i}"))?;
     }
     Ok(())
 }

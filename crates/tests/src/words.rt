@@ -1,9 +1,8 @@
 // Words that are no program, and words that are one.
-use program::words::from_words;
-use program::words::instruction_to_words;
-use program::words::to_words;
+use program::words::{from_words, instruction_to_words, to_words};
 use std::alloc::Global;
-use std::test::*;
+use std::process::Abort;
+use std::test::Fail;
 
 // Every instruction with its least and its greatest numbers, a row of four words each.
 const EDGES: [[u32; 4]; 9] = [
@@ -24,7 +23,7 @@ fn alone(row: [u32; 4]) -> [u32; 6] {
 }
 
 #[test]
-fn no_program() -> Result<(), Fail> {
+fn no_program(rt: HostRuntime) {
     let refused: [&[u32]; 17] = [
         &[],
         // no thread, with nothing behind and with a thread behind
@@ -52,13 +51,12 @@ fn no_program() -> Result<(), Fail> {
         &[1, 0x4000_0000],
     ];
     for (i, words) in refused.iter().enumerate() {
-        check(from_words(words).is_none()).note(format_args!("case {i}"))?;
+        assert!(rt; from_words(words).is_none(), "case {i}");
     }
-    Ok(())
 }
 
 #[test]
-fn no_instruction() -> Result<(), Fail> {
+fn no_instruction(rt: HostRuntime) {
     let refused = [
         // a register of 4
         [0, 4, 0, 0],
@@ -83,35 +81,35 @@ fn no_instruction() -> Result<(), Fail> {
         [5, 0, 0, 0],
     ];
     for row in refused {
-        check(from_words(&alone(row)).is_none()).note(format_args!("{row:?}"))?;
+        assert!(rt; from_words(&alone(row)).is_none(), "{row:?}");
     }
     // the greatest word in each place
     for row in EDGES {
         for k in 0..4 {
             let mut large = row;
             large[k] = u32::MAX;
-            check(from_words(&alone(large)).is_none()).note(format_args!("{large:?}"))?;
+            assert!(rt; from_words(&alone(large)).is_none(), "{large:?}");
         }
     }
-    Ok(())
 }
 
 // The words are a program, and its words are these again.
-fn check_back(heap: Global, words: &[u32]) -> Result<(), Fail> {
+fn check_back(rt: &impl Abort, heap: Global, words: &[u32]) -> Result<(), Fail> {
     let Some(p) = from_words(words) else {
         return Err(Fail::new("refused"));
     };
     let back = to_words(heap, &p)?;
-    check_eq(back.as_slice(), words)
+    assert_eq!(rt; back.as_slice(), words);
+    Ok(())
 }
 
 #[test]
-fn there_and_back(rt: LibcRuntime) -> Result<(), Fail> {
-    check_back(rt.alloc(), &[1, 0])?;
-    check_back(rt.alloc(), &[3, 0, 1, 4, 0, 0, 0, 0])?;
-    check_back(rt.alloc(), &alone([1, 1, 2, 3]))?;
+fn there_and_back(rt: HostRuntime) -> Result<(), Fail> {
+    check_back(&rt, rt.alloc(), &[1, 0])?;
+    check_back(&rt, rt.alloc(), &[3, 0, 1, 4, 0, 0, 0, 0])?;
+    check_back(&rt, rt.alloc(), &alone([1, 1, 2, 3]))?;
     for row in EDGES {
-        check_back(rt.alloc(), &alone(row))?;
+        check_back(&rt, rt.alloc(), &alone(row))?;
     }
     // four threads of eight instructions, and then a word too many
     let mut words = Vec::new(rt.alloc());
@@ -122,9 +120,9 @@ fn there_and_back(rt: LibcRuntime) -> Result<(), Fail> {
             words.extend_from_slice(&EDGES[k])?;
         }
     }
-    check_back(rt.alloc(), words.as_slice())?;
+    check_back(&rt, rt.alloc(), words.as_slice())?;
     words.push(0)?;
-    check(from_words(words.as_slice()).is_none())?;
+    assert!(rt; from_words(words.as_slice()).is_none());
     // nine instructions
     let mut words = Vec::new(rt.alloc());
     words.push(1)?;
@@ -132,18 +130,19 @@ fn there_and_back(rt: LibcRuntime) -> Result<(), Fail> {
     for row in EDGES {
         words.extend_from_slice(&row)?;
     }
-    check(from_words(words.as_slice()).is_none())
+    assert!(rt; from_words(words.as_slice()).is_none());
+    Ok(())
 }
 
 #[test]
-fn instructions_by_number() -> Result<(), Fail> {
+fn instructions_by_number(rt: HostRuntime) -> Result<(), Fail> {
     let Some(p) = from_words(&[2, 0, 2, 0, 3, 15, 0, 3, 7, 3, 0]) else {
         return Err(Fail::new("refused"));
     };
     let first = p.instruction(1, 0).ok_or("none")?;
-    check_eq(instruction_to_words(first), [0, 3, 15, 0])?;
+    assert_eq!(rt; instruction_to_words(first), [0, 3, 15, 0]);
     let last = p.instruction(1, 1).ok_or("none")?;
-    check_eq(instruction_to_words(last), [3, 7, 3, 0])?;
+    assert_eq!(rt; instruction_to_words(last), [3, 7, 3, 0]);
     for (n, pc) in [
         (0, 0),
         (1, 2),
@@ -152,7 +151,7 @@ fn instructions_by_number() -> Result<(), Fail> {
         (1, usize::MAX),
         (usize::MAX, 0),
     ] {
-        check(p.instruction(n, pc).is_none()).note(format_args!("{n} {pc}"))?;
+        assert!(rt; p.instruction(n, pc).is_none(), "{n} {pc}");
     }
     Ok(())
 }

@@ -1,14 +1,10 @@
 -- Worked by hand: what texts say.
-use mathlib.Core.Path.{_≡_, refl}
-use mathlib.Core.Bool.{Bool, true, false}
-use mathlib.Core.List.{List, [], _∷_, _++_}
+use Rattle.std.proofs.Common.{◌≡◌, ℕ, Bool, true, false, List, [], ◌∷◌, ◌++◌, codes, refl}
 use mathlib.Core.Option.{Option, some, none}
-use Prim.Native.Nat.{ℕ}
-use lib.Chars.{codes}
-use Rattle·std.specs.Written.{digits}
-use Rattle·model.specs.Code.{I, sets, adds, loads, stores, fence, Prog}
-use Rattle·text·specs.Grammar.{Listing, reads}
-use Rattle·text·specs.Shows.{shows}
+use Rattle.std.specs.Fmt.{digits}
+use Rattle.model.specs.Code.{I, sets, adds, loads, stores, fence, Prog}
+use Rattle.text.specs.Grammar.{Listing, reads}
+use Rattle.text.specs.Shows.{shows}
 
 -- a line and its end
 ln : List ℕ → List ℕ → List ℕ

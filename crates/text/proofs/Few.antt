@@ -1,24 +1,20 @@
 -- Lists of few elements, by their places.
-use mathlib.Core.Path.{_≡_, refl}
-use mathlib.Core.List.{List, [], _∷_}
-use Prim.Native.Nat.{ℕ, suc, _+_, _≤_}
-use native.Mathlib.Omega.{arith}
-use lib.ListN.{length, getD}
+use Rattle.std.proofs.Common.{◌≡◌, ℕ, suc, ◌+◌, ◌≤◌, List, [], ◌∷◌, length, get_or, refl, arith}
 
 module _ {A : Type 0} where
-  pub of-1 : (xs : List A) (d : A) → length xs ≡ 1 → xs ≡ getD xs 0 d ∷ []
+  pub of-1 : (xs : List A) (d : A) → length xs ≡ 1 → xs ≡ get_or xs 0 d ∷ []
   of-1 [] d h = absurd (omega arith)
   of-1 (a ∷ []) d h = refl
   of-1 (a ∷ b ∷ xs) d h = absurd (omega arith)
 
-  pub of-3 : (xs : List A) (d : A) → length xs ≡ 3 → xs ≡ getD xs 0 d ∷ getD xs 1 d ∷ getD xs 2 d ∷ []
+  pub of-3 : (xs : List A) (d : A) → length xs ≡ 3 → xs ≡ get_or xs 0 d ∷ get_or xs 1 d ∷ get_or xs 2 d ∷ []
   of-3 [] d h = absurd (omega arith)
   of-3 (a ∷ []) d h = absurd (omega arith)
   of-3 (a ∷ b ∷ []) d h = absurd (omega arith)
   of-3 (a ∷ b ∷ c ∷ []) d h = refl
   of-3 (a ∷ b ∷ c ∷ e ∷ xs) d h = absurd (omega arith)
 
-  pub of-5 : (xs : List A) (d : A) → length xs ≡ 5 → xs ≡ getD xs 0 d ∷ getD xs 1 d ∷ getD xs 2 d ∷ getD xs 3 d ∷ getD xs 4 d ∷ []
+  pub of-5 : (xs : List A) (d : A) → length xs ≡ 5 → xs ≡ get_or xs 0 d ∷ get_or xs 1 d ∷ get_or xs 2 d ∷ get_or xs 3 d ∷ get_or xs 4 d ∷ []
   of-5 [] d h = absurd (omega arith)
   of-5 (a ∷ []) d h = absurd (omega arith)
   of-5 (a ∷ b ∷ []) d h = absurd (omega arith)

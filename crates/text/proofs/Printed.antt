@@ -1,23 +1,15 @@
 -- A line put down column by column.
-use mathlib.Core.Path.{_≡_, refl, sym, ap, subst, _∙_}
-use mathlib.Core.Bool.{Bool, true, false, _&&_, not}
-use mathlib.Core.List.{List, [], _∷_, _++_, map, append-assoc, append-nil}
+use Rattle.std.proofs.Common.{◌≡◌, ℕ, zero, suc, ◌+◌, ◌-◌, ◌<◌, ◌≤◌, max, Bool, true, false, not, ◌&&◌, eqb, List, [], ◌∷◌, ◌++◌, map, length, get_or, drop, replicate, codes, decimal, sym, refl, ap, ◌∙◌, subst, append_assoc, append-nil, add-one, arith}
 use mathlib.Core.Option.{Option, some, none}
-use Prim.Native.Nat.{ℕ, zero, suc, _+_, _-_, _≤_, _<_, max}
-use native.Mathlib.Omega.{arith}
-use lib.Chars.{codes}
-use lib.Dec.{eqb, eqb·suc-zero}
-use lib.ListN.{length, getD, drop, replicate}
-use native.Mathlib.Numerals.{add-one}
-use Rattle·std.specs.Written.{decimal}
-use Rattle·std.proofs.shelf.Lists.{at-drop-more, at-drop-all, drop-more, length-drop}
-use Rattle·std.proofs.shelf.Ways.{tells}
-use Rattle·model.specs.Code.{opt, nth, I, fence, Thread, Prog}
-use Rattle·text·specs.Bytes.{Word, empty}
-use Rattle·text·specs.Grammar.{Column, Listing}
-use Rattle·text·specs.Shows.{show-place, show-i, show-cell, widest, width, spaced, filled, show-line, show-lines, height}
-use Rattle·text·specs.Parts.{gap, behind, part}
-use Rattle·text·proofs.Filling.{nth-at, nth-past}
+use lib.Dec.{eqb-suc-zero}
+use Rattle.std.proofs.lemmas.List.{at_drop_more, at_drop_all, drop_more, length-drop}
+use Rattle.std.proofs.lemmas.Bool.Decides.{nat_tests}
+use Rattle.model.specs.Code.{opt, nth, I, fence, Thread, Prog}
+use Rattle.text.specs.Bytes.{Word, empty}
+use Rattle.text.specs.Grammar.{Column, Listing}
+use Rattle.text.specs.Shows.{show-place, show-i, show-cell, widest, width, spaced, filled, show-line, show-lines, height}
+use Rattle.text.specs.Parts.{gap, behind, part}
+use Rattle.text.proofs.Filling.{nth-at, nth_past}
 
 -- what is left of a line at column k, with the blank before it
 abbrev pub lead : ℕ → List ℕ → List ℕ
@@ -42,66 +34,66 @@ module _ (ns : List Word) (j : ℕ) (c : Column) where
       let rest = spaced (show-line ns j (d ∷ ds)) in
       let cell = show-cell ns c j in
       let blanks = replicate (width ns c - length (show-cell ns c j)) 32 in
-      append-assoc cell blanks (codes " |" ++ rest) ∙ ap (λ (l : List ℕ). cell ++ l) (sym (append-assoc blanks (codes " |") rest)) ∙ sym (append-assoc cell (blanks ++ codes " |") rest)
+      append_assoc cell blanks (codes " |" ++ rest) ∙ ap (λ (l : List ℕ). cell ++ l) (sym (append_assoc blanks (codes " |") rest)) ∙ sym (append_assoc cell (blanks ++ codes " |") rest)
   part-more (suc k) d ds =
       let rest = spaced (show-line ns j (d ∷ ds)) in
       let cell = show-cell ns c j in
       let blanks = replicate (width ns c - length (show-cell ns c j)) 32 in
       spaced-some (filled ns c j) 32 (124 ∷ rest)
-      ∙ ap (λ (l : List ℕ). 32 ∷ l) (append-assoc cell blanks (codes " |" ++ rest) ∙ ap (λ (l : List ℕ). cell ++ l) (sym (append-assoc blanks (codes " |") rest)) ∙ sym (append-assoc cell (blanks ++ codes " |") rest))
+      ∙ ap (λ (l : List ℕ). 32 ∷ l) (append_assoc cell blanks (codes " |" ++ rest) ∙ ap (λ (l : List ℕ). cell ++ l) (sym (append_assoc blanks (codes " |") rest)) ∙ sym (append_assoc cell (blanks ++ codes " |") rest))
 
 -- the cell of a line below the first
-pub below : (ns : List Word) (c : Column) (j k : ℕ) → j ≡ suc k → show-cell ns c j ≡ opt (nth (c .code) k) [] (show-i ns)
+pub below : (ns : List Word) (c : Column) (j k : ℕ) → j ≡ suc k → show-cell ns c j ≡ opt (nth c.code k) [] (show-i ns)
 below ns c j k e = ap (show-cell ns c) e
 
-pub below-at : (ns : List Word) (c : Column) (j k : ℕ) (i : I) → j ≡ suc k → k < length (c .code) → getD (c .code) k fence ≡ i → show-cell ns c j ≡ show-i ns i
-below-at ns c j k i e l f = below ns c j k e ∙ ap (λ (o : Option I). opt o [] (show-i ns)) (nth-at (c .code) k fence l) ∙ ap (show-i ns) f
+pub below_at : (ns : List Word) (c : Column) (j k : ℕ) (i : I) → j ≡ suc k → k < length c.code → get_or c.code k fence ≡ i → show-cell ns c j ≡ show-i ns i
+below_at ns c j k i e l f = below ns c j k e ∙ ap (λ (o : Option I). opt o [] (show-i ns)) (nth-at c.code k fence l) ∙ ap (show-i ns) f
 
-pub below-past : (ns : List Word) (c : Column) (j k : ℕ) → j ≡ suc k → length (c .code) ≤ k → show-cell ns c j ≡ []
-below-past ns c j k e l = below ns c j k e ∙ ap (λ (o : Option I). opt o [] (show-i ns)) (nth-past (c .code) k l)
+pub below-past : (ns : List Word) (c : Column) (j k : ℕ) → j ≡ suc k → length c.code ≤ k → show-cell ns c j ≡ []
+below-past ns c j k e l = below ns c j k e ∙ ap (λ (o : Option I). opt o [] (show-i ns)) (nth_past c.code k l)
 
 -- the place of a name, and of none
-pub place-named : (ns : List Word) (x : ℕ) (w : Word) → x < length ns → getD ns x [] ≡ w → show-place ns x ≡ w
+pub place-named : (ns : List Word) (x : ℕ) (w : Word) → x < length ns → get_or ns x [] ≡ w → show-place ns x ≡ w
 place-named ns x w l e = ap (λ (o : Option Word). opt o (decimal x) (λ (v : Word). v)) (nth-at ns x [] l) ∙ e
 
 pub place-numeral : (ns : List Word) (x : ℕ) → length ns ≤ x → show-place ns x ≡ decimal x
-place-numeral ns x l = ap (λ (o : Option Word). opt o (decimal x) (λ (v : Word). v)) (nth-past ns x l)
+place-numeral ns x l = ap (λ (o : Option Word). opt o (decimal x) (λ (v : Word). v)) (nth_past ns x l)
 
 -- a loop that widens the column
 module _ (ns : List Word) (t : Thread) where
-  pub wider : (w i n : ℕ) → i < length t → n ≡ length (show-i ns (getD t i fence)) → widest ns w (drop i t) ≡ widest ns (max w n) (drop (i + 1) t)
-  wider w i n l e = at-drop-more (widest ns w) t i fence l ∙ ap (λ (k : ℕ). widest ns (max w k) (drop (i + 1) t)) (sym e)
+  pub wider : (w i n : ℕ) → i < length t → n ≡ length (show-i ns (get_or t i fence)) → widest ns w (drop i t) ≡ widest ns (max w n) (drop (i + 1) t)
+  wider w i n l e = at_drop_more (widest ns w) t i fence l ∙ ap (λ (k : ℕ). widest ns (max w k) (drop (i + 1) t)) (sym e)
 
   pub widest-all : (w i : ℕ) → length t ≤ i → widest ns w (drop i t) ≡ w
-  widest-all w i l = at-drop-all (widest ns w) t i l
+  widest-all w i l = at_drop_all (widest ns w) t i l
 
 -- a loop that looks for the longest thread
 module _ (p : Prog) where
-  pub taller : (h i n : ℕ) → i < length p → n ≡ length (getD p i []) → height p ≡ max h (height (drop i p)) → height p ≡ max (max n h) (height (drop (i + 1) p))
-  taller h i n l e f = let s : height (drop i p) ≡ max (length (getD p i [])) (height (drop (i + 1) p)) = at-drop-more height p i [] l in omega arith
+  pub taller : (h i n : ℕ) → i < length p → n ≡ length (get_or p i []) → height p ≡ max h (height (drop i p)) → height p ≡ max (max n h) (height (drop (i + 1) p))
+  taller h i n l e f = let s : height (drop i p) ≡ max (length (get_or p i [])) (height (drop (i + 1) p)) = at_drop_more height p i [] l in omega arith
 
   pub tallest : (h i : ℕ) → length p ≤ i → height p ≡ max h (height (drop i p)) → h ≡ height p
-  tallest h i l f = let s : height (drop i p) ≡ 0 = at-drop-all height p i l in omega arith
+  tallest h i l f = let s : height (drop i p) ≡ 0 = at_drop_all height p i l in omega arith
 
 -- one column more of a line
-pub one-part : (ns : List Word) (j k : ℕ) (cs : List Column) (c : Column) (last : Bool) → k < length cs → getD cs k c ≡ c → last ≡ eqb (k + 1) (length cs) → lead k (show-line ns j (drop k cs)) ≡ part ns j k last c ++ lead (k + 1) (show-line ns j (drop (k + 1) cs))
+pub one-part : (ns : List Word) (j k : ℕ) (cs : List Column) (c : Column) (last : Bool) → k < length cs → get_or cs k c ≡ c → last ≡ eqb (k + 1) (length cs) → lead k (show-line ns j (drop k cs)) ≡ part ns j k last c ++ lead (k + 1) (show-line ns j (drop (k + 1) cs))
 one-part ns j k cs c last l e f =
-    ap (λ (ds : List Column). lead k (show-line ns j ds)) (drop-more cs k c l ∙ ap (λ (d : Column). d ∷ drop (k + 1) cs) e)
+    ap (λ (ds : List Column). lead k (show-line ns j ds)) (drop_more cs k c l ∙ ap (λ (d : Column). d ∷ drop (k + 1) cs) e)
     ∙ go (drop (k + 1) cs) last (f ∙ left)
     ∙ ap (λ (m : ℕ). part ns j k last c ++ lead m (show-line ns j (drop (k + 1) cs))) (sym (add-one k))
   where
     left : eqb (k + 1) (length cs) ≡ eqb (length (drop (k + 1) cs)) 0
-    left = let s = length-drop (k + 1) cs in grind (arith, tells)
+    left = let s = length-drop (k + 1) cs in grind (arith, nat_tests)
 
     go : (ds : List Column) (last : Bool) → last ≡ eqb (length ds) 0 → lead k (show-line ns j (c ∷ ds)) ≡ part ns j k last c ++ lead (suc k) (show-line ns j ds)
     go [] last h = part-last ns j c k ∙ ap (λ (b : Bool). part ns j k b c ++ []) (sym h)
-    go (d ∷ ds) last h = part-more ns j c k d ds ∙ ap (λ (b : Bool). part ns j k b c ++ spaced (show-line ns j (d ∷ ds))) (sym (h ∙ eqb·suc-zero (length ds)))
+    go (d ∷ ds) last h = part-more ns j c k d ds ∙ ap (λ (b : Bool). part ns j k b c ++ spaced (show-line ns j (d ∷ ds))) (sym (h ∙ eqb-suc-zero (length ds)))
 
 -- one line more
-pub one-line : (l : Listing) (j n : ℕ) → j < n → show-lines l (suc j) (n - j) ≡ show-line (l .places) (j + 1) (l .columns) ++ (10 ∷ show-lines l (suc (j + 1)) (n - (j + 1)))
-one-line l j n h =
+pub one_line : (l : Listing) (j n : ℕ) → j < n → show-lines l (suc j) (n - j) ≡ show-line l.places (j + 1) l.columns ++ (10 ∷ show-lines l (suc (j + 1)) (n - (j + 1)))
+one_line l j n h =
     let e : n - j ≡ suc (n - (j + 1)) = omega arith in
-    ap (show-lines l (suc j)) e ∙ ap (λ (k : ℕ). show-line (l .places) k (l .columns) ++ (10 ∷ show-lines l (suc k) (n - (j + 1)))) (sym (add-one j))
+    ap (show-lines l (suc j)) e ∙ ap (λ (k : ℕ). show-line l.places k l.columns ++ (10 ∷ show-lines l (suc k) (n - (j + 1)))) (sym (add-one j))
 
-pub no-line : (l : Listing) (j n : ℕ) → n ≤ j → show-lines l (suc j) (n - j) ≡ []
-no-line l j n h = let e : n - j ≡ 0 = omega arith in ap (show-lines l (suc j)) e
+pub no_line : (l : Listing) (j n : ℕ) → n ≤ j → show-lines l (suc j) (n - j) ≡ []
+no_line l j n h = let e : n - j ≡ 0 = omega arith in ap (show-lines l (suc j)) e

@@ -1,81 +1,74 @@
 -- What is printed of a fine listing is read back as that listing.
-use mathlib.Core.Path.{_≡_, refl, sym, ap, subst, _∙_}
-use mathlib.Core.Bool.{Bool, true, false, _&&_, _||_, not}
-use mathlib.Core.List.{List, [], _∷_, _++_, map, append-assoc, append-nil}
-use mathlib.Core.Logic.{_⊎_, inl, inr, ⊎-elim}
+use Rattle.std.proofs.Common.{◌≡◌, ℕ, zero, suc, ◌+◌, ◌<◌, ◌≤◌, max, Bool, true, false, not, ◌&&◌, ◌||◌, T, leb, ◌⊎◌, List, [], ◌∷◌, ◌++◌, map, length, take, sym, refl, ap, ◌∙◌, subst, inl, inr, ⊎_elim, append_assoc, append-nil, arith}
 use mathlib.Core.Option.{Option, some, none}
-use Prim.Native.Nat.{ℕ, zero, suc, _+_, _≤_, _<_, max}
-use native.Mathlib.Omega.{arith}
-use lib.Dec.{T, leb}
-use lib.ListN.{length, take}
-use Rattle·std.proofs.shelf.Lists.{length-push, length-map, map-push, take-all}
-use Rattle·std.proofs.shelf.Tests.{and-parts, and-left, and-from, or-from, leb-true}
-use Rattle·std.proofs.shelf.Ways.{tells}
-use Rattle·model.specs.Code.{pick, opt, nth, I, Thread, Prog, ok-t, ok-ts, ok}
-use Rattle·text·specs.Bytes.{Word, letter, blank, all, empty, word, same, has, pieces, tokens}
-use Rattle·text·specs.Grammar.{Column, names, Listing, program, Places, Page, row, begin, begins, each, content, line, blank-page, whole, reads}
-use Rattle·text·specs.Shows.{show-i, show-cell, show-line, show-lines, height, shows}
-use Rattle·text·specs.Fine.{apart, no-numerals, seen-i, through-row, through-rows, Ordered, Named, Fine, Round-trip, listed, Every-program}
-use Rattle·text·proofs.Columns.{opt-some, rows-count-more, row-count-more, cut, Fits, All-fit, nth-mid, Within, within-less, Row-read, row-read}
-use Rattle·text·proofs.Headings.{a-name, begins-is}
-use Rattle·text·proofs.Lines.{cells, All-tidy, row-alike, begins-alike, line-alike, line-lined, line-dark, line-is}
-use Rattle·text·proofs.Ordering.{other, Parts, parts, Proper, Known, counts, nth-some}
-use Rattle·text·proofs.Picks.{pick-true, pick-false, opt-is}
-use Rattle·text·proofs.Sayings.{dark}
-use Rattle·text·proofs.Spelling.{spell-last}
-use Rattle·text·proofs.Tidy.{tidy, word-tidy, no-line-end, pieces-at}
+use Rattle.std.proofs.lemmas.List.{length_push, length-map, map_push, take_all}
+use Rattle.std.proofs.lemmas.Bool.{and_parts, and_left, and_from, or_from, leb-true}
+use Rattle.std.proofs.lemmas.Bool.Decides.{nat_tests}
+use Rattle.model.specs.Code.{pick, opt, nth, I, Thread, Prog, ok-t, ok-ts, ok}
+use Rattle.text.specs.Bytes.{Word, letter, blank, all, empty, word, same, has, pieces, tokens}
+use Rattle.text.specs.Grammar.{Column, names, Listing, program, Places, Page, row, begin, begins, each, content, line, blank-page, whole, reads}
+use Rattle.text.specs.Shows.{show-i, show-cell, show-line, show-lines, height, shows}
+use Rattle.text.specs.Fine.{apart, no-numerals, seen-i, through-row, through-rows, Ordered, Named, Fine, Round-trip, listed, Every-program}
+use Rattle.text.proofs.Columns.{opt-some, rows-count-more, row-count-more, cut, Fits, All-fit, nth-mid, Within, within-less, Row-read, row_read}
+use Rattle.text.proofs.Headings.{a-name, begins-is}
+use Rattle.text.proofs.Lines.{cells, All-tidy, row-alike, begins-alike, line-alike, line-lined, line-dark, line-is}
+use Rattle.text.proofs.Ordering.{other, Parts, parts, Proper, Known, counts, nth-some}
+use Rattle.text.proofs.Picks.{pick_true, pick-false, opt-is}
+use Rattle.text.proofs.Sayings.{dark}
+use Rattle.text.proofs.Spelling.{spell_last}
+use Rattle.text.proofs.Tidy.{tidy, word-tidy, no-line-end, pieces-at}
 
-T-true : (b : Bool) → T b → b ≡ true
-T-true true t = refl
-T-true false t = absurd t
+T_true : (b : Bool) → T b → b ≡ true
+T_true true t = refl
+T_true false t = absurd t
 
 -- the line that names the threads
 apart-mid : (xs ys : List Word) (w : Word) → apart (xs ++ w ∷ ys) ≡ true → (word w ≡ true) × (has w xs ≡ false)
-apart-mid [] ys w a = (parts w ys a .is-word, refl)
+apart-mid [] ys w a = ((parts w ys a).is_word, refl)
 apart-mid (v ∷ xs) ys w a =
     let p = parts v (xs ++ w ∷ ys) a in
-    let h = apart-mid xs ys w (p .rest) in
-    (h .0, or-from (same w v) (has w xs) (other v w (xs ++ w ∷ ys) (length xs) (p .once) (nth-mid xs w ys)) (h .1))
+    let h = apart-mid xs ys w p.rest in
+    (h.0, or_from (same w v) (has w xs) (other v w (xs ++ w ∷ ys) (length xs) p.once (nth-mid xs w ys)) h.1)
 
 names-read : (ns : List Word) (todo D : List Column) (ws : List Word) (ps : Places) → names D ≡ ws → apart (ws ++ names todo) ≡ true → length D + length todo ≤ 4 → each begins (record { columns = D; places = ps }) (cells ns 0 todo) ≡ some (record { columns = D ++ map (cut 0) todo; places = ps })
 names-read ns [] D ws ps e a l = ap (λ (cs : List Column). some (record { columns = cs; places = ps })) (sym (append-nil D))
 names-read ns (c ∷ cs) D ws ps e a l =
-    let w = c .name in
+    let w = c.name in
     let page : Page = record { columns = D; places = ps } in
     let p = apart-mid ws (names cs) w a in
-    let size = length-map D (λ (c : Column). c .name) in
-    let known : has w (names D) ≡ false = ap (has w) e ∙ p .1 in
-    let longer = length-push D (cut 0 c) in
-    let next : names (D ++ cut 0 c ∷ []) ≡ ws ++ w ∷ [] = map-push (λ (c : Column). c .name) D (cut 0 c) ∙ ap (λ (l : List Word). l ++ w ∷ []) e in
-    opt-is none (λ (s : Page). each begins s (cells ns 0 cs)) (begins-is page w (w ∷ []) (spell-last [] w (p .0)) w (a-name (names D) w (p .0) known (omega arith)))
-    ∙ names-read ns cs (D ++ cut 0 c ∷ []) (ws ++ w ∷ []) ps next (ap apart (append-assoc ws (w ∷ []) (names cs)) ∙ a) (omega arith)
-    ∙ ap (λ (l : List Column). some (record { columns = l; places = ps })) (append-assoc D (cut 0 c ∷ []) (map (cut 0) cs))
+    let size = length-map D (λ (c : Column). c.name) in
+    let known : has w (names D) ≡ false = ap (has w) e ∙ p.1 in
+    let longer = length_push D (cut 0 c) in
+    let next : names (D ++ cut 0 c ∷ []) ≡ ws ++ w ∷ [] = map_push (λ (c : Column). c.name) D (cut 0 c) ∙ ap (λ (l : List Word). l ++ w ∷ []) e in
+    opt-is none (λ (s : Page). each begins s (cells ns 0 cs)) (begins-is page w (w ∷ []) (spell_last [] w p.0) w (a-name (names D) w p.0 known (omega arith)))
+    ∙ names-read ns cs (D ++ cut 0 c ∷ []) (ws ++ w ∷ []) ps next (ap apart (append_assoc ws (w ∷ []) (names cs)) ∙ a) (omega arith)
+    ∙ ap (λ (l : List Column). some (record { columns = l; places = ps })) (append_assoc D (cut 0 c ∷ []) (map (cut 0) cs))
 
 names-tidy : (ns : List Word) (cs : List Column) → apart (names cs) ≡ true → All-tidy ns 0 cs
 names-tidy ns [] a = tt
 names-tidy ns (c ∷ cs) a =
-    let p = parts (c .name) (names cs) a in
-    (word-tidy (c .name) (and-parts (not (empty (c .name))) (all letter (c .name)) (p .is-word) .1), names-tidy ns cs (p .rest))
+    let p = parts c.name (names cs) a in
+    (word-tidy c.name (and_parts (not (empty c.name)) (all letter c.name) p.is_word).1, names-tidy ns cs p.rest)
 
 word-dark : (w : Word) → word w ≡ true → all blank w ≡ false
-word-dark [] e = absurd (let z : _≡_ {A = ℕ} 0 1 = cc in omega arith)
-word-dark (b ∷ w) e = and-left (blank b) (all blank w) (no-blank (and-parts (letter b) (all letter w) e .0))
+word-dark [] e = absurd (let z : ◌≡◌ {A = ℕ} 0 1 = cc in omega arith)
+word-dark (b ∷ w) e = and_left (blank b) (all blank w) (no-blank (and_parts (letter b) (all letter w) e).0)
   where
     no-blank : letter b ≡ true → blank b ≡ false
-    no-blank f = grind (arith, tells)
+    no-blank f = grind (arith, nat_tests)
 
 -- rows of columns that fit, as many as the longest has
-fit : (cs : List Column) → ok-ts (map (λ (c : Column). c .code) cs) ≡ true → All-fit cs
+fit : (cs : List Column) → ok-ts (map (λ (c : Column). c.code) cs) ≡ true → All-fit cs
 fit [] o = tt
 fit (c ∷ cs) o =
-    let p = and-parts (leb (length (c .code)) 8) (ok-t (c .code) && ok-ts (map (λ (c : Column). c .code) cs)) o in
-    let q = and-parts (ok-t (c .code)) (ok-ts (map (λ (c : Column). c .code) cs)) (p .1) in
-    (record { few = leb-true (length (c .code)) 8 (p .0); ok = q .0 }, fit cs (q .1))
+    let p = and_parts (leb (length c.code) 8) (ok-t c.code && ok-ts (map (λ (c : Column). c.code) cs)) o in
+    let q = and_parts (ok-t c.code) (ok-ts (map (λ (c : Column). c.code) cs)) p.1 in
+    (record { few = leb-true (length c.code) 8 p.0; ok = q.0 }, fit cs q.1)
 
-whole-cut : (cs : List Column) (h : ℕ) → height (map (λ (c : Column). c .code) cs) ≤ h → map (cut h) cs ≡ cs
+whole-cut : (cs : List Column) (h : ℕ) → height (map (λ (c : Column). c.code) cs) ≤ h → map (cut h) cs ≡ cs
 whole-cut [] h l = refl
 whole-cut (c ∷ cs) h l =
-    let front : record { name = c .name; code = take h (c .code) } ≡ c = ap (λ (t : Thread). record { name = c .name; code = t }) (take-all h (c .code) (omega arith)) in
+    let front : record { name = c.name; code = take h c.code } ≡ c = ap (λ (t : Thread). record { name = c.name; code = t }) (take_all h c.code (omega arith)) in
     (λ i. front i ∷ whole-cut cs h (omega arith) i)
 
 -- r and m more
@@ -83,9 +76,9 @@ abbrev up : ℕ → ℕ → ℕ
 up r zero = r
 up r (suc m) = up (suc r) m
 
-up-is : (r m : ℕ) → up r m ≡ r + m
-up-is r zero = omega arith
-up-is r (suc m) = let e = up-is (suc r) m in omega arith
+up_is : (r m : ℕ) → up r m ≡ r + m
+up_is r zero = omega arith
+up_is r (suc m) = let e = up_is (suc r) m in omega arith
 
 module _ (ns : List Word) (proper : Proper ns) (c : Column) (ds : List Column) (fits : All-fit (c ∷ ds)) where
   abbrev listing : Listing
@@ -99,12 +92,12 @@ module _ (ns : List Word) (proper : Proper ns) (c : Column) (ds : List Column) (
 
   -- a row has something to say in its only column
   row-dark : (r : ℕ) → r < height threads → length ds ≡ 0 → all blank (show-cell ns c (suc r)) ≡ false
-  row-dark r l none-more =
-      let short = height-one ds none-more in
-      let (i, e) = nth-some (c .code) r (omega arith) in
+  row-dark r l None-more =
+      let short = height-one ds None-more in
+      let (i, e) = nth-some c.code r (omega arith) in
       ap (λ (o : Option I). all blank (opt o [] (show-i ns))) e ∙ dark ns i
     where
-      height-one : (ds : List Column) → length ds ≡ 0 → height (map (λ (c : Column). c .code) ds) ≡ 0
+      height-one : (ds : List Column) → length ds ≡ 0 → height (map (λ (c : Column). c.code) ds) ≡ 0
       height-one [] e = refl
       height-one (d ∷ ds) e = absurd (omega arith)
 
@@ -122,40 +115,40 @@ module _ (ns : List Word) (proper : Proper ns) (c : Column) (ds : List Column) (
   rows-read (suc m) r n t ps known e within h =
       let (j, f, g) = opt-some (through-row (counts ns) r n threads) (λ (j : ℕ). through-rows (counts ns) threads (suc r) j m) t e in
       let less = rows-count-more ns threads (suc r) j t m g in
-      let one : Row-read ns proper (c ∷ ds) [] 0 r j ps = row-read ns proper (c ∷ ds) [] 0 r n j ps refl fits known f (within-less ns proper j t less within) in
-      let next : Rows-read (suc r) m t (one .after) = rows-read m (suc r) j t (one .after) (one .known) g within (omega arith) in
+      let one : Row-read ns proper (c ∷ ds) [] 0 r j ps = row_read ns proper (c ∷ ds) [] 0 r n j ps refl fits known f (within-less ns proper j t less within) in
+      let next : Rows-read (suc r) m t one.after = rows-read m (suc r) j t one.after one.known g within (omega arith) in
       let text = show-line ns (suc r) (c ∷ ds) in
-      let neat = line-lined ns (suc r) (c ∷ ds) (one .tidied) in
-      let said : line (at r ps) text ≡ some (at (suc r) (one .after)) =
+      let neat = line-lined ns (suc r) (c ∷ ds) one.tidied in
+      let said : line (at r ps) text ≡ some (at (suc r) one.after) =
       line-is (at r ps) text neat ∙ pick-false _ _ (line-dark ns (suc r) c ds (row-dark r (omega arith)))
-      ∙ row-alike (pieces 124 text) (cells ns (suc r) (c ∷ ds)) (line-alike ns (suc r) c ds (one .tidied)) 0 (at r ps) ∙ one .read in
+      ∙ row-alike (pieces 124 text) (cells ns (suc r) (c ∷ ds)) (line-alike ns (suc r) c ds one.tidied) 0 (at r ps) ∙ one.read in
       record {
-        after = next .after;
+        after = next.after;
         read =
             ap (each line (at r ps)) (pieces-at 10 text (show-lines listing (suc (suc r)) m) (no-line-end text neat))
-            ∙ opt-is none (λ (s : Page). each line s (pieces 10 (show-lines listing (suc (suc r)) m))) said ∙ next .read;
-        known = next .known;
+            ∙ opt-is none (λ (s : Page). each line s (pieces 10 (show-lines listing (suc (suc r)) m))) said ∙ next.read;
+        known = next.known;
       }
 
   -- the whole text
-  module _ (named : apart (names (c ∷ ds)) ≡ true) (four : length (c ∷ ds) ≤ 4) (t : ℕ) (order : through-rows (counts ns) threads 0 0 (height threads) ≡ some t) (within : Within ns proper t) (start : Known ns 0 (record { numerals = false; words = [] })) (all-named : (ps : Places) → Known ns t ps → ps .words ≡ ns) where
-    pub read-back : reads (shows listing) ≡ some listing
-    read-back =
+  module _ (named : apart (names (c ∷ ds)) ≡ true) (four : length (c ∷ ds) ≤ 4) (t : ℕ) (order : through-rows (counts ns) threads 0 0 (height threads) ≡ some t) (within : Within ns proper t) (start : Known ns 0 (record { numerals = false; words = [] })) (all_named : (ps : Places) → Known ns t ps → ps.words ≡ ns) where
+    pub read_back : reads (shows listing) ≡ some listing
+    read_back =
         let first : Places = record { numerals = false; words = [] } in
         let text = show-line ns 0 (c ∷ ds) in
         let clean = names-tidy ns (c ∷ ds) named in
         let neat = line-lined ns 0 (c ∷ ds) clean in
         let heading : line blank-page text ≡ some (at 0 first) =
-        line-is blank-page text neat ∙ pick-false _ _ (line-dark ns 0 c ds (λ _. word-dark (c .name) (parts (c .name) (names ds) named .is-word)))
+        line-is blank-page text neat ∙ pick-false _ _ (line-dark ns 0 c ds (λ _. word-dark c.name (parts c.name (names ds) named).is_word))
         ∙ begins-alike (pieces 124 text) (cells ns 0 (c ∷ ds)) (line-alike ns 0 c ds clean) blank-page
         ∙ names-read ns (c ∷ ds) [] [] first refl named (omega arith) in
         let rows : Rows-read 0 (height threads) t first = rows-read (height threads) 0 0 t first start order within (omega arith) in
-        let filled : each line blank-page (pieces 10 (shows listing)) ≡ some (at (up 0 (height threads)) (rows .after)) =
+        let filled : each line blank-page (pieces 10 (shows listing)) ≡ some (at (up 0 (height threads)) rows.after) =
         ap (each line blank-page) (pieces-at 10 text (show-lines listing 1 (height threads)) (no-line-end text neat))
-        ∙ opt-is none (λ (s : Page). each line s (pieces 10 (show-lines listing 1 (height threads)))) heading ∙ rows .read in
-        let all-rows = up-is 0 (height threads) in
+        ∙ opt-is none (λ (s : Page). each line s (pieces 10 (show-lines listing 1 (height threads)))) heading ∙ rows.read in
+        let all-rows = up_is 0 (height threads) in
         opt-is none whole filled
-        ∙ (λ i. some (record { columns = whole-cut (c ∷ ds) (up 0 (height threads)) (omega arith) i; places = all-named (rows .after) (rows .known) i }))
+        ∙ (λ i. some (record { columns = whole-cut (c ∷ ds) (up 0 (height threads)) (omega arith) i; places = all_named rows.after rows.known i }))
 
 -- with numerals for places there is nothing to count
 no-count-row : (r : ℕ) (ts : List Thread) → through-row (counts []) r 0 ts ≡ some 0
@@ -170,26 +163,26 @@ no-count : (p : Prog) (r h : ℕ) → through-rows (counts []) p r 0 h ≡ some 
 no-count p r zero = refl
 no-count p r (suc h) = opt-is none (λ (n : ℕ). through-rows (counts []) p (suc r) n h) (no-count-row r p) ∙ no-count p (suc r) h
 
-within-limits : (c : Column) (ds : List Column) → ok (map (λ (c : Column). c .code) (c ∷ ds)) ≡ true → All-fit (c ∷ ds) × (length (c ∷ ds) ≤ 4)
+within-limits : (c : Column) (ds : List Column) → ok (map (λ (c : Column). c.code) (c ∷ ds)) ≡ true → All-fit (c ∷ ds) × (length (c ∷ ds) ≤ 4)
 within-limits c ds o =
-    let p = map (λ (c : Column). c .code) (c ∷ ds) in
-    let q = and-parts (leb 1 (length p)) (leb (length p) 4 && ok-ts p) o in
-    let r = and-parts (leb (length p) 4) (ok-ts p) (q .1) in
-    let few = leb-true (length p) 4 (r .0) in
-    let size = length-map (c ∷ ds) (λ (c : Column). c .code) in
-    (fit (c ∷ ds) (r .1), omega arith)
+    let p = map (λ (c : Column). c.code) (c ∷ ds) in
+    let q = and_parts (leb 1 (length p)) (leb (length p) 4 && ok-ts p) o in
+    let r = and_parts (leb (length p) 4) (ok-ts p) q.1 in
+    let few = leb-true (length p) 4 r.0 in
+    let size = length-map (c ∷ ds) (λ (c : Column). c.code) in
+    (fit (c ∷ ds) r.1, omega arith)
 
-pub round-trip : Round-trip
-round-trip l fine = go (l .columns) (l .places) (T-true _ (fine .within)) (T-true _ (fine .names)) (fine .places)
+pub round_trip : Round-trip
+round_trip l fine = go l.columns l.places (T_true _ fine.within) (T_true _ fine.names) fine.places
   where
-    go : (cs : List Column) (ns : List Word) → ok (map (λ (c : Column). c .code) cs) ≡ true → apart (names cs) ≡ true → Named ns (map (λ (c : Column). c .code) cs) → reads (shows (record { columns = cs; places = ns })) ≡ some (record { columns = cs; places = ns })
-    go [] ns o a h = absurd (let z : _≡_ {A = ℕ} 0 1 = cc in omega arith)
+    go : (cs : List Column) (ns : List Word) → ok (map (λ (c : Column). c.code) cs) ≡ true → apart (names cs) ≡ true → Named ns (map (λ (c : Column). c.code) cs) → reads (shows (record { columns = cs; places = ns })) ≡ some (record { columns = cs; places = ns })
+    go [] ns o a h = absurd (let z : ◌≡◌ {A = ℕ} 0 1 = cc in omega arith)
     go (c ∷ ds) [] o a h =
         let (fits, four) = within-limits c ds o in
-        read-back [] tt c ds fits a four 0 (no-count (map (λ (c : Column). c .code) (c ∷ ds)) 0 (height (map (λ (c : Column). c .code) (c ∷ ds)))) (inl refl) refl (λ ps k. k)
+        read_back [] tt c ds fits a four 0 (no-count (map (λ (c : Column). c.code) (c ∷ ds)) 0 (height (map (λ (c : Column). c.code) (c ∷ ds)))) (inl refl) refl (λ ps k. k)
     go (c ∷ ds) (w ∷ ws) o a h =
         let (fits, four) = within-limits c ds o in
-        read-back (w ∷ ws) (T-true _ (h .words), T-true _ (h .no-numeral), h .few) c ds fits a four (length (w ∷ ws)) (h .order) (inr (omega arith)) (refl, refl) (λ ps k. k .1 ∙ take-all (length (w ∷ ws)) (w ∷ ws) (omega arith))
+        read_back (w ∷ ws) (T_true _ h.words, T_true _ h.no-numeral, h.few) c ds fits a four (length (w ∷ ws)) h.order (inr (omega arith)) (refl, refl) (λ ps k. k.1 ∙ take_all (length (w ∷ ws)) (w ∷ ws) (omega arith))
 
 -- columns from names and threads
 listed-program : (ws : List Word) (p : Prog) → length ws ≡ length p → program (listed ws p) ≡ p
@@ -198,7 +191,7 @@ listed-program [] (t ∷ ts) e = absurd (omega arith)
 listed-program (w ∷ ws) [] e = absurd (omega arith)
 listed-program (w ∷ ws) (t ∷ ts) e = ap (λ (p : Prog). t ∷ p) (listed-program ws ts (omega arith))
 
-listed-names : (ws : List Word) (p : Prog) → length ws ≡ length p → names (listed ws p .columns) ≡ ws
+listed-names : (ws : List Word) (p : Prog) → length ws ≡ length p → names (listed ws p).columns ≡ ws
 listed-names [] [] e = refl
 listed-names [] (t ∷ ts) e = absurd (omega arith)
 listed-names (w ∷ ws) [] e = absurd (omega arith)
@@ -208,7 +201,7 @@ pub every-program : Every-program
 every-program ws p o a e =
     let is = listed-program ws p e in (
       is,
-      round-trip (listed ws p) (record {
+      round_trip (listed ws p) (record {
         within = subst (λ (q : Prog). T (ok q)) (sym is) o;
         names = subst (λ (l : List Word). T (apart l)) (sym (listed-names ws p e)) a;
         places = tt;

@@ -1,30 +1,21 @@
 -- A printed instruction is read as that instruction.
-use mathlib.Core.Path.{_≡_, refl, sym, ap, subst, _∙_}
-use mathlib.Core.Bool.{Bool, true, false, _&&_, _||_, not}
-use mathlib.Core.List.{List, [], _∷_, _++_, append-assoc, append-nil}
-use mathlib.Core.Logic.{_⊎_}
+use Rattle.std.proofs.Common.{◌≡◌, ℕ, zero, suc, ◌+◌, ◌<◌, ◌≤◌, Bool, true, false, not, ◌&&◌, ◌||◌, eqb, ltb, ◌⊎◌, List, [], ◌∷◌, ◌++◌, length, codes, decimal, sym, refl, ap, ◌∙◌, subst, append_assoc, append-nil, arith}
 use mathlib.Core.Option.{Option, some, none}
-use Prim.Native.Nat.{ℕ, zero, suc, _+_, _≤_, _<_}
-use native.Mathlib.Omega.{arith}
-use lib.Chars.{codes}
-use lib.Dec.{eqb, ltb}
-use lib.ListN.{length}
-use Rattle·std.specs.Written.{decimal}
-use Rattle·std.proofs.shelf.Tests.{and-parts, and-left, and-right, ltb-true}
-use Rattle·model.specs.Code.{pick, opt, I, sets, adds, loads, stores, fence, ok-i}
-use Rattle·text·specs.Bytes.{Word, blank, letter, all, empty, word, same, tokens-on, tokens}
-use Rattle·text·specs.Grammar.{Places, register, number, place, set, sum, load, store, instruction}
-use Rattle·text·specs.Shows.{show-register, show-place, show-i}
-use Rattle·text·specs.Fine.{seen-i}
-use Rattle·text·proofs.Forms.{is-sum, is-load, is-store}
-use Rattle·text·proofs.Ordering.{Proper, Known, counts, count, Placed, placed}
-use Rattle·text·proofs.Picks.{pick-true, pick-false, opt-is}
-use Rattle·text·proofs.Scanning.{at}
-use Rattle·text·proofs.Spelling.{spell-word, spell-last, word-no-sign, number-word, number-read, register-word, register-read}
-use Rattle·text·proofs.Tidy.{tidy, all-append, word-tidy}
+use Rattle.std.proofs.lemmas.Bool.{and_parts, and_left, and_right, ltb-true}
+use Rattle.model.specs.Code.{pick, opt, I, sets, adds, loads, stores, fence, ok-i}
+use Rattle.text.specs.Bytes.{Word, blank, letter, all, empty, word, same, tokens-on, tokens}
+use Rattle.text.specs.Grammar.{Places, register, number, place, set, sum, load, store, instruction}
+use Rattle.text.specs.Shows.{show-register, show-place, show-i}
+use Rattle.text.specs.Fine.{seen-i}
+use Rattle.text.proofs.Forms.{is_sum, is-load, is_store}
+use Rattle.text.proofs.Ordering.{Proper, Known, counts, count, Placed, placed}
+use Rattle.text.proofs.Picks.{pick_true, pick-false, opt-is}
+use Rattle.text.proofs.Scanning.{at}
+use Rattle.text.proofs.Spelling.{spell-word, spell_last, word-no-sign, number_word, number_read, register-word, register-read}
+use Rattle.text.proofs.Tidy.{tidy, all_append, word-tidy}
 
 word-letters : (w : Word) → word w ≡ true → all letter w ≡ true
-word-letters w e = and-parts (not (empty w)) (all letter w) e .1
+word-letters w e = (and_parts (not (empty w)) (all letter w) e).1
 
 abbrev eq : Word
 eq = codes "="
@@ -61,24 +52,24 @@ store-count [] n x r = refl
 store-count (w ∷ ws) n x r = refl
 
 module _ (ns : List Word) (ps : Places) (n m : ℕ) (proper : Proper ns) (known : Known ns n ps) (fits : (length ns ≡ 0) ⊎ (m ≤ length ns)) where
-  as-before : m ≡ n → Known ns m ps
-  as-before e = subst (λ (k : ℕ). Known ns k ps) (sym e) known
+  as_before : m ≡ n → Known ns m ps
+  as_before e = subst (λ (k : ℕ). Known ns k ps) (sym e) known
 
   tidy-register : (r : ℕ) → r < 4 → all tidy (show-register r) ≡ true
   tidy-register r l = word-tidy (show-register r) (word-letters (show-register r) (register-word r l))
 
   tidy-place : (x : ℕ) → Placed ns ps x m → all tidy (show-place ns x) ≡ true
-  tidy-place x p = word-tidy (show-place ns x) (word-letters (show-place ns x) (p .is-word))
+  tidy-place x p = word-tidy (show-place ns x) (word-letters (show-place ns x) p.is_word)
 
   say-set : (r v : ℕ) → r < 4 → v < 16 → m ≡ n → Said ns ps (sets r v) m
   say-set r v l k e = record {
     first = show-register r;
     more = eq ∷ decimal v ∷ [];
-    spelt = spell-word [] (show-register r) (codes " = " ++ decimal v) (register-word r l) refl ∙ spell-last (show-register r ∷ eq ∷ []) (decimal v) (number-word v k);
+    spelt = spell-word [] (show-register r) (codes " = " ++ decimal v) (register-word r l) refl ∙ spell_last (show-register r ∷ eq ∷ []) (decimal v) (number_word v k);
     after = ps;
-    read = opt-is none (λ (r : ℕ). opt (number (decimal v)) none (λ (v : ℕ). some (ps, sets r v))) (register-read r l) ∙ opt-is none (λ (v : ℕ). some (ps, sets r v)) (number-read v k);
-    known = as-before e;
-    tidied = all-append tidy (show-register r) (codes " = " ++ decimal v) (tidy-register r l) (word-tidy (decimal v) (word-letters (decimal v) (number-word v k)));
+    read = opt-is none (λ (r : ℕ). opt (number (decimal v)) none (λ (v : ℕ). some (ps, sets r v))) (register-read r l) ∙ opt-is none (λ (v : ℕ). some (ps, sets r v)) (number_read v k);
+    known = as_before e;
+    tidied = all_append tidy (show-register r) (codes " = " ++ decimal v) (tidy-register r l) (word-tidy (decimal v) (word-letters (decimal v) (number_word v k)));
   }
 
   say-add : (r a b : ℕ) → r < 4 → a < 4 → b < 4 → m ≡ n → Said ns ps (adds r a b) m
@@ -88,16 +79,16 @@ module _ (ns : List Word) (ps : Places) (n m : ℕ) (proper : Proper ns) (known 
     spelt =
         spell-word [] (show-register r) (codes " = " ++ (show-register a ++ (codes " + " ++ show-register b))) (register-word r l) refl
         ∙ spell-word (show-register r ∷ eq ∷ []) (show-register a) (codes " + " ++ show-register b) (register-word a j) refl
-        ∙ spell-last (show-register r ∷ eq ∷ show-register a ∷ codes "+" ∷ []) (show-register b) (register-word b k);
+        ∙ spell_last (show-register r ∷ eq ∷ show-register a ∷ codes "+" ∷ []) (show-register b) (register-word b k);
     after = ps;
     read =
         opt-is none (λ (r : ℕ). opt (register (show-register a)) none (λ (a : ℕ). opt (register (show-register b)) none (λ (b : ℕ). some (ps, adds r a b)))) (register-read r l)
         ∙ opt-is none (λ (a : ℕ). opt (register (show-register b)) none (λ (b : ℕ). some (ps, adds r a b))) (register-read a j)
         ∙ opt-is none (λ (b : ℕ). some (ps, adds r a b)) (register-read b k);
-    known = as-before e;
+    known = as_before e;
     tidied =
-        all-append tidy (show-register r) (codes " = " ++ (show-register a ++ (codes " + " ++ show-register b))) (tidy-register r l)
-        (all-append tidy (show-register a) (codes " + " ++ show-register b) (tidy-register a j) (tidy-register b k));
+        all_append tidy (show-register r) (codes " = " ++ (show-register a ++ (codes " + " ++ show-register b))) (tidy-register r l)
+        (all_append tidy (show-register a) (codes " + " ++ show-register b) (tidy-register a j) (tidy-register b k));
   }
 
   say-load : (r x : ℕ) → r < 4 → Placed ns ps x m → Said ns ps (loads r x) m
@@ -106,16 +97,16 @@ module _ (ns : List Word) (ps : Places) (n m : ℕ) (proper : Proper ns) (known 
     more = eq ∷ codes "[" ∷ show-place ns x ∷ codes "]" ∷ [];
     spelt =
         spell-word [] (show-register r) (codes " = [" ++ (show-place ns x ++ codes "]")) (register-word r l) refl
-        ∙ spell-word (show-register r ∷ eq ∷ codes "[" ∷ []) (show-place ns x) (codes "]") (p .is-word) refl;
-    after = p .after;
+        ∙ spell-word (show-register r ∷ eq ∷ codes "[" ∷ []) (show-place ns x) (codes "]") p.is_word refl;
+    after = p.after;
     read =
-        is-load ps (show-register r) eq (codes "[") (show-place ns x) (codes "]") (word-no-sign (show-place ns x) 43 (p .is-word) refl) refl
-        ∙ opt-is none (λ (r : ℕ). opt (place ps (show-place ns x)) none (λ (q : Places × ℕ). some (q .0, loads r (q .1)))) (register-read r l)
-        ∙ opt-is none (λ (q : Places × ℕ). some (q .0, loads r (q .1))) (p .read);
-    known = p .known;
+        is-load ps (show-register r) eq (codes "[") (show-place ns x) (codes "]") (word-no-sign (show-place ns x) 43 p.is_word refl) refl
+        ∙ opt-is none (λ (r : ℕ). opt (place ps (show-place ns x)) none (λ (q : Places × ℕ). some (q.0, loads r q.1))) (register-read r l)
+        ∙ opt-is none (λ (q : Places × ℕ). some (q.0, loads r q.1)) p.read;
+    known = p.known;
     tidied =
-        all-append tidy (show-register r) (codes " = [" ++ (show-place ns x ++ codes "]")) (tidy-register r l)
-        (all-append tidy (show-place ns x) (codes "]") (tidy-place x p) refl);
+        all_append tidy (show-register r) (codes " = [" ++ (show-place ns x ++ codes "]")) (tidy-register r l)
+        (all_append tidy (show-place ns x) (codes "]") (tidy-place x p) refl);
   }
 
   say-store : (x r : ℕ) → r < 4 → Placed ns ps x m → Said ns ps (stores x r) m
@@ -123,40 +114,40 @@ module _ (ns : List Word) (ps : Places) (n m : ℕ) (proper : Proper ns) (known 
     first = codes "[";
     more = show-place ns x ∷ codes "]" ∷ eq ∷ show-register r ∷ [];
     spelt =
-        spell-word (codes "[" ∷ []) (show-place ns x) (codes "] = " ++ show-register r) (p .is-word) refl
-        ∙ spell-last (codes "[" ∷ show-place ns x ∷ codes "]" ∷ eq ∷ []) (show-register r) (register-word r l);
-    after = p .after;
+        spell-word (codes "[" ∷ []) (show-place ns x) (codes "] = " ++ show-register r) p.is_word refl
+        ∙ spell_last (codes "[" ∷ show-place ns x ∷ codes "]" ∷ eq ∷ []) (show-register r) (register-word r l);
+    after = p.after;
     read =
-        is-store ps (codes "[") (show-place ns x) (codes "]") eq (show-register r)
-        (and-left (same (show-place ns x) eq) _ (word-no-sign (show-place ns x) 61 (p .is-word) refl))
-        (and-left (same (show-place ns x) eq) _ (word-no-sign (show-place ns x) 61 (p .is-word) refl))
+        is_store ps (codes "[") (show-place ns x) (codes "]") eq (show-register r)
+        (and_left (same (show-place ns x) eq) _ (word-no-sign (show-place ns x) 61 p.is_word refl))
+        (and_left (same (show-place ns x) eq) _ (word-no-sign (show-place ns x) 61 p.is_word refl))
         refl
-        ∙ opt-is none (λ (q : Places × ℕ). opt (register (show-register r)) none (λ (r : ℕ). some (q .0, stores (q .1) r))) (p .read)
-        ∙ opt-is none (λ (r : ℕ). some (p .after, stores x r)) (register-read r l);
-    known = p .known;
-    tidied = all-append tidy (show-place ns x) (codes "] = " ++ show-register r) (tidy-place x p) (tidy-register r l);
+        ∙ opt-is none (λ (q : Places × ℕ). opt (register (show-register r)) none (λ (r : ℕ). some (q.0, stores q.1 r))) p.read
+        ∙ opt-is none (λ (r : ℕ). some (p.after, stores x r)) (register-read r l);
+    known = p.known;
+    tidied = all_append tidy (show-place ns x) (codes "] = " ++ show-register r) (tidy-place x p) (tidy-register r l);
   }
 
   pub said : (i : I) → ok-i i ≡ true → counts ns n i ≡ some m → Said ns ps i m
   said (sets r v) ok e =
-      let p = and-parts (ltb r 4) (ltb v 16) ok in
-      say-set r v (ltb-true r 4 (p .0)) (ltb-true v 16 (p .1)) (still ns n m (sets r v) (λ k. refl) e)
+      let p = and_parts (ltb r 4) (ltb v 16) ok in
+      say-set r v (ltb-true r 4 p.0) (ltb-true v 16 p.1) (still ns n m (sets r v) (λ k. refl) e)
   said (adds r a b) ok e =
-      let p = and-parts (ltb r 4) (ltb a 4 && ltb b 4) ok in
-      let q = and-parts (ltb a 4) (ltb b 4) (p .1) in
-      say-add r a b (ltb-true r 4 (p .0)) (ltb-true a 4 (q .0)) (ltb-true b 4 (q .1)) (still ns n m (adds r a b) (λ k. refl) e)
+      let p = and_parts (ltb r 4) (ltb a 4 && ltb b 4) ok in
+      let q = and_parts (ltb a 4) (ltb b 4) p.1 in
+      say-add r a b (ltb-true r 4 p.0) (ltb-true a 4 q.0) (ltb-true b 4 q.1) (still ns n m (adds r a b) (λ k. refl) e)
   said (loads r x) ok e =
-      let p = and-parts (ltb r 4) (ltb x 8) ok in
-      say-load r x (ltb-true r 4 (p .0)) (placed ns ps n x m proper known (ltb-true x 8 (p .1)) (sym (load-count ns n r x) ∙ e) fits)
+      let p = and_parts (ltb r 4) (ltb x 8) ok in
+      say-load r x (ltb-true r 4 p.0) (placed ns ps n x m proper known (ltb-true x 8 p.1) (sym (load-count ns n r x) ∙ e) fits)
   said (stores x r) ok e =
-      let p = and-parts (ltb x 8) (ltb r 4) ok in
-      say-store x r (ltb-true r 4 (p .1)) (placed ns ps n x m proper known (ltb-true x 8 (p .0)) (sym (store-count ns n x r) ∙ e) fits)
+      let p = and_parts (ltb x 8) (ltb r 4) ok in
+      say-store x r (ltb-true r 4 p.1) (placed ns ps n x m proper known (ltb-true x 8 p.0) (sym (store-count ns n x r) ∙ e) fits)
   said fence ok e = record {
     first = codes "fence";
     more = [];
     spelt = refl;
     after = ps;
     read = refl;
-    known = as-before (still ns n m fence (λ k. refl) e);
+    known = as_before (still ns n m fence (λ k. refl) e);
     tidied = refl;
   }

@@ -1,46 +1,37 @@
 -- The tokens of what is printed.
-use mathlib.Core.Path.{_≡_, refl, sym, ap, subst, _∙_}
-use mathlib.Core.Bool.{Bool, true, false, _&&_, _||_, not}
-use mathlib.Core.List.{List, [], _∷_, _++_, append-nil, append-assoc}
+use Rattle.std.proofs.Common.{◌≡◌, ℕ, zero, suc, ◌+◌, ◌-◌, ◌/◌, ◌%◌, ◌^◌, ◌<◌, ◌≤◌, Bool, true, false, not, ◌&&◌, ◌||◌, T, eqb, ltb, List, [], ◌∷◌, ◌++◌, length, replicate, codes, decimal, sym, refl, ap, ◌∙◌, subst, ⊎_elim, append_assoc, append-nil, arith}
 use mathlib.Core.Option.{Option, some, none}
-use Prim.Native.Nat.{ℕ, zero, suc, _+_, _-_, _/_, _%_, _^_, _≤_, _<_}
-use native.Mathlib.Omega.{arith}
-use lib.Chars.{codes}
-use lib.Dec.{eqb, ltb, T}
-use lib.ListN.{length, replicate}
-use Rattle·std.specs.Written.{decimal}
-use Rattle·std.proofs.shelf.Decimals.{decimal-digit, decimal-step}
-use Rattle·std.proofs.shelf.Tests.{and-parts, and-from, and-left, cases-lt}
-use Rattle·std.proofs.shelf.Ways.{tells}
-use mathlib.Core.Logic.{⊎-elim}
-use Rattle·model.specs.Code.{pick, opt}
-use Rattle·text·specs.Bytes.{Word, within, digit, letter, blank, sign, all, empty, word, same, Scan, ended, scan, tokens-on, tokens}
-use Rattle·text·specs.Grammar.{register, number, numeral}
-use Rattle·text·specs.Shows.{show-register}
-use Rattle·text·proofs.Picks.{pick-true, pick-false}
-use Rattle·text·proofs.Runs.{Stops}
-use Rattle·text·proofs.Scanning.{at, step, scan-letter, pass-blank, end-word}
+use Rattle.std.proofs.lemmas.Fmt.{decimal_digit, decimal_step}
+use Rattle.std.proofs.lemmas.Bool.{and_parts, and_from, and_left, cases_lt}
+use Rattle.std.proofs.lemmas.Bool.Decides.{nat_tests}
+use Rattle.model.specs.Code.{pick, opt}
+use Rattle.text.specs.Bytes.{Word, within, digit, letter, blank, sign, all, empty, word, same, Scan, ended, scan, tokens-on, tokens}
+use Rattle.text.specs.Grammar.{register, number, numeral}
+use Rattle.text.specs.Shows.{show-register}
+use Rattle.text.proofs.Picks.{pick_true, pick-false}
+use Rattle.text.proofs.Runs.{Stops}
+use Rattle.text.proofs.Scanning.{at, step, scan-letter, pass-blank, end-word}
 
 letters-on : (ts : List Word) (v w rest : List ℕ) → all letter w ≡ true → tokens-on (at ts v) (w ++ rest) ≡ tokens-on (at ts (v ++ w)) rest
 letters-on ts v [] rest e = ap (λ (u : Word). tokens-on (at ts u) rest) (sym (append-nil v))
 letters-on ts v (b ∷ w) rest e =
-    let p = and-parts (letter b) (all letter w) e in
-    step (at ts v) (at ts (v ++ b ∷ [])) b (w ++ rest) (scan-letter (at ts v) b (p .0))
-    ∙ letters-on ts (v ++ b ∷ []) w rest (p .1)
-    ∙ ap (λ (u : Word). tokens-on (at ts u) rest) (append-assoc v (b ∷ []) w)
+    let p = and_parts (letter b) (all letter w) e in
+    step (at ts v) (at ts (v ++ b ∷ [])) b (w ++ rest) (scan-letter (at ts v) b p.0)
+    ∙ letters-on ts (v ++ b ∷ []) w rest p.1
+    ∙ ap (λ (u : Word). tokens-on (at ts u) rest) (append_assoc v (b ∷ []) w)
 
 -- a word, and then something else
 pub spell-word : (ts : List Word) (w rest : List ℕ) → word w ≡ true → Stops letter rest → tokens-on (at ts []) (w ++ rest) ≡ tokens-on (at (ts ++ w ∷ []) []) rest
-spell-word ts [] rest e h = absurd (let z : _≡_ {A = ℕ} 0 1 = cc in omega arith)
+spell-word ts [] rest e h = absurd (let z : ◌≡◌ {A = ℕ} 0 1 = cc in omega arith)
 spell-word ts (b ∷ w) rest e h = letters-on ts [] (b ∷ w) rest e ∙ end-word ts b w rest h
 
-pub spell-last : (ts : List Word) (w : Word) → word w ≡ true → tokens-on (at ts []) w ≡ some (ts ++ w ∷ [])
-spell-last ts w e = ap (tokens-on (at ts [])) (sym (append-nil w)) ∙ spell-word ts w [] e tt
+pub spell_last : (ts : List Word) (w : Word) → word w ≡ true → tokens-on (at ts []) w ≡ some (ts ++ w ∷ [])
+spell_last ts w e = ap (tokens-on (at ts [])) (sym (append-nil w)) ∙ spell-word ts w [] e tt
 
 -- blanks behind a cell say nothing
-blanks-end : (s : Scan) (n : ℕ) → tokens-on s (replicate n 32) ≡ some (ended (s .found) (s .begun))
+blanks-end : (s : Scan) (n : ℕ) → tokens-on s (replicate n 32) ≡ some (ended s.found s.begun)
 blanks-end s zero = refl
-blanks-end s (suc n) = blanks-end (at (ended (s .found) (s .begun)) []) n
+blanks-end s (suc n) = blanks-end (at (ended s.found s.begun) []) n
 
 pub trailing : (s : Scan) (c : List ℕ) (n : ℕ) → tokens-on s (c ++ replicate n 32) ≡ tokens-on s c
 trailing s [] n = blanks-end s n
@@ -53,66 +44,66 @@ trailing s (b ∷ c) n = go (scan s b) (λ t. trailing t c n)
 -- a word is no sign
 pub word-no-sign : (w : Word) (b : ℕ) → word w ≡ true → sign b ≡ true → same w (b ∷ []) ≡ false
 word-no-sign [] b e f = refl
-word-no-sign (c ∷ w) b e f = and-left (eqb c b) (same w []) (no-sign c (and-parts (letter c) (all letter w) e .0))
+word-no-sign (c ∷ w) b e f = and_left (eqb c b) (same w []) (no_sign c (and_parts (letter c) (all letter w) e).0)
   where
-    no-sign : (c : ℕ) → letter c ≡ true → eqb c b ≡ false
-    no-sign c g = grind (arith, tells)
+    no_sign : (c : ℕ) → letter c ≡ true → eqb c b ≡ false
+    no_sign c g = grind (arith, nat_tests)
 
 -- numbers as they are printed
 digit-letter : (b : ℕ) → b < 10 → letter (48 + b) ≡ true
-digit-letter b l = grind (arith, tells)
+digit-letter b l = grind (arith, nat_tests)
 
 one-digit : (n : ℕ) → n < 10 → word (decimal n) ≡ true
-one-digit n l = ap word (decimal-digit n l) ∙ and-from (letter (48 + n)) true (digit-letter n l) refl
+one-digit n l = ap word (decimal_digit n l) ∙ and_from (letter (48 + n)) true (digit-letter n l) refl
 
-two-digits : (n : ℕ) → 10 ≤ n → n < 16 → decimal n ≡ 49 ∷ (38 + n) ∷ []
-two-digits n l m =
+two_digits : (n : ℕ) → 10 ≤ n → n < 16 → decimal n ≡ 49 ∷ (38 + n) ∷ []
+two_digits n l m =
     let e : n / 10 ≡ 1 = omega arith in
     let d : 48 + n % 10 ≡ 38 + n = omega arith in
-    decimal-step n l (omega arith) ∙ (λ i. decimal (e i) ++ d i ∷ []) ∙ ap (λ (ds : List ℕ). ds ++ (38 + n) ∷ []) (decimal-digit 1 (omega arith))
+    decimal_step n l (omega arith) ∙ (λ i. decimal (e i) ++ d i ∷ []) ∙ ap (λ (ds : List ℕ). ds ++ (38 + n) ∷ []) (decimal_digit 1 (omega arith))
 
-pub number-word : (n : ℕ) → n < 16 → word (decimal n) ≡ true
-number-word n l = ⊎-elim (one-digit n) (λ m. ap word (two-digits n m l) ∙ and-from (letter (38 + n)) true (second m) refl) (cases-lt n 10)
+pub number_word : (n : ℕ) → n < 16 → word (decimal n) ≡ true
+number_word n l = ⊎_elim (one-digit n) (λ m. ap word (two_digits n m l) ∙ and_from (letter (38 + n)) true (second m) refl) (cases_lt n 10)
   where
     second : 10 ≤ n → letter (38 + n) ≡ true
-    second m = grind (arith, tells)
+    second m = grind (arith, nat_tests)
 
 back : (n : ℕ) → 48 + n - 48 ≡ n
 back n = omega arith
 
-pub number-read : (n : ℕ) → n < 16 → number (decimal n) ≡ some n
-number-read n l =
-    ⊎-elim
-    (λ m. ap number (decimal-digit n m) ∙ pick-true _ _ (first m) ∙ ap (λ (k : ℕ). some k) (back n))
-    (λ m. ap number (two-digits n m l) ∙ pick-true _ _ (second m) ∙ ap (λ (k : ℕ). some k) (after n))
-    (cases-lt n 10)
+pub number_read : (n : ℕ) → n < 16 → number (decimal n) ≡ some n
+number_read n l =
+    ⊎_elim
+    (λ m. ap number (decimal_digit n m) ∙ pick_true _ _ (first m) ∙ ap (λ (k : ℕ). some k) (back n))
+    (λ m. ap number (two_digits n m l) ∙ pick_true _ _ (second m) ∙ ap (λ (k : ℕ). some k) (after n))
+    (cases_lt n 10)
   where
     first : n < 10 → digit (48 + n) ≡ true
-    first m = grind (arith, tells)
+    first m = grind (arith, nat_tests)
 
     second : 10 ≤ n → (eqb 49 49 && within 48 53 (38 + n)) ≡ true
-    second m = grind (arith, tells)
+    second m = grind (arith, nat_tests)
 
     after : (n : ℕ) → 38 + n - 38 ≡ n
     after n = omega arith
 
 pub register-word : (r : ℕ) → r < 4 → word (show-register r) ≡ true
-register-word r l = ap (λ (ds : List ℕ). word (114 ∷ ds)) (decimal-digit r (omega arith)) ∙ and-from (letter (48 + r)) true (digit-letter r (omega arith)) refl
+register-word r l = ap (λ (ds : List ℕ). word (114 ∷ ds)) (decimal_digit r (omega arith)) ∙ and_from (letter (48 + r)) true (digit-letter r (omega arith)) refl
 
 pub register-read : (r : ℕ) → r < 4 → register (show-register r) ≡ some r
-register-read r l = ap (λ (ds : List ℕ). register (114 ∷ ds)) (decimal-digit r (omega arith)) ∙ pick-true _ _ small ∙ ap (λ (k : ℕ). some k) (back r)
+register-read r l = ap (λ (ds : List ℕ). register (114 ∷ ds)) (decimal_digit r (omega arith)) ∙ pick_true _ _ small ∙ ap (λ (k : ℕ). some k) (back r)
   where
     small : within 48 51 (48 + r) ≡ true
-    small = grind (arith, tells)
+    small = grind (arith, nat_tests)
 
 pub numeral-digits : (x : ℕ) → x < 8 → all digit (decimal x) ≡ true
-numeral-digits x l = ap (all digit) (decimal-digit x (omega arith)) ∙ and-from (digit (48 + x)) true small refl
+numeral-digits x l = ap (all digit) (decimal_digit x (omega arith)) ∙ and_from (digit (48 + x)) true small refl
   where
     small : digit (48 + x) ≡ true
-    small = grind (arith, tells)
+    small = grind (arith, nat_tests)
 
 pub numeral-read : (x : ℕ) → x < 8 → numeral (decimal x) ≡ some x
-numeral-read x l = ap numeral (decimal-digit x (omega arith)) ∙ pick-true _ _ small ∙ ap (λ (k : ℕ). some k) (back x)
+numeral-read x l = ap numeral (decimal_digit x (omega arith)) ∙ pick_true _ _ small ∙ ap (λ (k : ℕ). some k) (back x)
   where
     small : within 48 55 (48 + x) ≡ true
-    small = grind (arith, tells)
+    small = grind (arith, nat_tests)

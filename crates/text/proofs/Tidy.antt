@@ -1,21 +1,14 @@
 -- What printed lines are made of, and how they are cut again.
-use mathlib.Core.Path.{_≡_, refl, sym, ap, subst, _∙_}
-use mathlib.Core.Bool.{Bool, true, false, _&&_, _||_, not}
-use mathlib.Core.List.{List, [], _∷_, _++_, append-nil, append-assoc}
+use Rattle.std.proofs.Common.{◌≡◌, ℕ, zero, suc, ◌+◌, ◌<◌, ◌≤◌, Bool, true, false, not, ◌&&◌, ◌||◌, eqb, List, [], ◌∷◌, ◌++◌, length, take, replicate, codes, sym, refl, ap, ◌∙◌, subst, append_assoc, append-nil, arith}
 use mathlib.Core.Option.{Option, some, none}
-use Prim.Native.Nat.{ℕ, zero, suc, _+_, _≤_, _<_}
-use native.Mathlib.Omega.{arith}
-use lib.Chars.{codes}
-use lib.Dec.{eqb}
-use lib.ListN.{length, take, replicate}
-use Rattle·std.proofs.shelf.Lists.{take-all}
-use Rattle·std.proofs.shelf.Tests.{and-parts, and-from, eq-eqb, not-true}
-use Rattle·std.proofs.shelf.Ways.{tells}
-use Rattle·model.specs.Code.{pick}
-use Rattle·text·specs.Bytes.{letter, blank, sign, plain, all, but, run, cut, pieces, before, no-cr}
-use Rattle·text·specs.Shows.{spaced}
-use Rattle·text·proofs.Picks.{pick-true, pick-false}
-use Rattle·text·proofs.Runs.{run-on}
+use Rattle.std.proofs.lemmas.List.{take_all}
+use Rattle.std.proofs.lemmas.Bool.{and_parts, and_from, eq-eqb, not-true}
+use Rattle.std.proofs.lemmas.Bool.Decides.{nat_tests}
+use Rattle.model.specs.Code.{pick}
+use Rattle.text.specs.Bytes.{letter, blank, sign, plain, all, but, run, cut, pieces, before, no-cr}
+use Rattle.text.specs.Shows.{spaced}
+use Rattle.text.proofs.Picks.{pick_true, pick-false}
+use Rattle.text.proofs.Runs.{run_on}
 
 -- what cells are made of: letters, blanks and signs
 abbrev pub tidy : ℕ → Bool
@@ -25,79 +18,79 @@ tidy b = letter b || (eqb b 32 || sign b)
 abbrev pub lined : ℕ → Bool
 lined b = tidy b || eqb b 124
 
-pub all-append : (f : ℕ → Bool) (xs ys : List ℕ) → all f xs ≡ true → all f ys ≡ true → all f (xs ++ ys) ≡ true
-all-append f [] ys e h = h
-all-append f (x ∷ xs) ys e h = let p = and-parts (f x) (all f xs) e in and-from (f x) (all f (xs ++ ys)) (p .0) (all-append f xs ys (p .1) h)
+pub all_append : (f : ℕ → Bool) (xs ys : List ℕ) → all f xs ≡ true → all f ys ≡ true → all f (xs ++ ys) ≡ true
+all_append f [] ys e h = h
+all_append f (x ∷ xs) ys e h = let p = and_parts (f x) (all f xs) e in and_from (f x) (all f (xs ++ ys)) p.0 (all_append f xs ys p.1 h)
 
-pub all-weaker : (f g : ℕ → Bool) → ((b : ℕ) → f b ≡ true → g b ≡ true) → (xs : List ℕ) → all f xs ≡ true → all g xs ≡ true
-all-weaker f g h [] e = refl
-all-weaker f g h (x ∷ xs) e = let p = and-parts (f x) (all f xs) e in and-from (g x) (all g xs) (h x (p .0)) (all-weaker f g h xs (p .1))
+pub all_weaker : (f g : ℕ → Bool) → ((b : ℕ) → f b ≡ true → g b ≡ true) → (xs : List ℕ) → all f xs ≡ true → all g xs ≡ true
+all_weaker f g h [] e = refl
+all_weaker f g h (x ∷ xs) e = let p = and_parts (f x) (all f xs) e in and_from (g x) (all g xs) (h x p.0) (all_weaker f g h xs p.1)
 
-pub all-replicate : (f : ℕ → Bool) (n b : ℕ) → f b ≡ true → all f (replicate n b) ≡ true
-all-replicate f zero b e = refl
-all-replicate f (suc n) b e = and-from (f b) (all f (replicate n b)) e (all-replicate f n b e)
+pub all_replicate : (f : ℕ → Bool) (n b : ℕ) → f b ≡ true → all f (replicate n b) ≡ true
+all_replicate f zero b e = refl
+all_replicate f (suc n) b e = and_from (f b) (all f (replicate n b)) e (all_replicate f n b e)
 
 letter-tidy : (b : ℕ) → letter b ≡ true → tidy b ≡ true
-letter-tidy b e = grind (arith, tells)
+letter-tidy b e = grind (arith, nat_tests)
 
 pub word-tidy : (w : List ℕ) → all letter w ≡ true → all tidy w ≡ true
-word-tidy = all-weaker letter tidy letter-tidy
+word-tidy = all_weaker letter tidy letter-tidy
 
 tidy-lined : (b : ℕ) → tidy b ≡ true → lined b ≡ true
-tidy-lined b e = grind (arith, tells)
+tidy-lined b e = grind (arith, nat_tests)
 
 pub lined-from : (w : List ℕ) → all tidy w ≡ true → all lined w ≡ true
-lined-from = all-weaker tidy lined tidy-lined
+lined-from = all_weaker tidy lined tidy-lined
 
 tidy-no-bar : (b : ℕ) → tidy b ≡ true → but 124 b ≡ true
-tidy-no-bar b e = grind (arith, tells)
+tidy-no-bar b e = grind (arith, nat_tests)
 
 pub no-bar : (w : List ℕ) → all tidy w ≡ true → all (but 124) w ≡ true
-no-bar = all-weaker tidy (but 124) tidy-no-bar
+no-bar = all_weaker tidy (but 124) tidy-no-bar
 
 lined-plain : (b : ℕ) → lined b ≡ true → plain b ≡ true
-lined-plain b e = grind (arith, tells)
+lined-plain b e = grind (arith, nat_tests)
 
 lined-no-end : (b : ℕ) → lined b ≡ true → but 10 b ≡ true
-lined-no-end b e = grind (arith, tells)
+lined-no-end b e = grind (arith, nat_tests)
 
 lined-no-cr : (b : ℕ) → lined b ≡ true → but 13 b ≡ true
-lined-no-cr b e = grind (arith, tells)
+lined-no-cr b e = grind (arith, nat_tests)
 
 lined-no-hash : (b : ℕ) → lined b ≡ true → but 35 b ≡ true
-lined-no-hash b e = grind (arith, tells)
+lined-no-hash b e = grind (arith, nat_tests)
 
 run-whole : (f : ℕ → Bool) (bs : List ℕ) → all f bs ≡ true → run f bs ≡ length bs
 run-whole f [] e = refl
-run-whole f (b ∷ bs) e = let p = and-parts (f b) (all f bs) e in run-on f b bs (p .0) ∙ ap suc (run-whole f bs (p .1))
+run-whole f (b ∷ bs) e = let p = and_parts (f b) (all f bs) e in run_on f b bs p.0 ∙ ap suc (run-whole f bs p.1)
 
 pub before-whole : (s : ℕ) (bs : List ℕ) → all (but s) bs ≡ true → before s bs ≡ bs
-before-whole s bs e = ap (λ (n : ℕ). take n bs) (run-whole (but s) bs e) ∙ take-all (length bs) bs (omega arith)
+before-whole s bs e = ap (λ (n : ℕ). take n bs) (run-whole (but s) bs e) ∙ take_all (length bs) bs (omega arith)
 
 no-cr-whole : (bs : List ℕ) → all (but 13) bs ≡ true → no-cr bs ≡ bs
 no-cr-whole [] e = refl
-no-cr-whole (b ∷ []) e = pick-false _ _ (not-true (eqb b 13) (and-parts (but 13 b) true e .0))
-no-cr-whole (b ∷ c ∷ bs) e = ap (λ (r : List ℕ). b ∷ r) (no-cr-whole (c ∷ bs) (and-parts (but 13 b) (all (but 13) (c ∷ bs)) e .1))
+no-cr-whole (b ∷ []) e = pick-false _ _ (not-true (eqb b 13) (and_parts (but 13 b) true e).0)
+no-cr-whole (b ∷ c ∷ bs) e = ap (λ (r : List ℕ). b ∷ r) (no-cr-whole (c ∷ bs) (and_parts (but 13 b) (all (but 13) (c ∷ bs)) e).1)
 
 module _ (bs : List ℕ) (e : all lined bs ≡ true) where
-  pub line-plain : all plain (no-cr bs) ≡ true
-  line-plain = ap (all plain) (no-cr-whole bs (all-weaker lined (but 13) lined-no-cr bs e)) ∙ all-weaker lined plain lined-plain bs e
+  pub line_plain : all plain (no-cr bs) ≡ true
+  line_plain = ap (all plain) (no-cr-whole bs (all_weaker lined (but 13) lined-no-cr bs e)) ∙ all_weaker lined plain lined-plain bs e
 
   pub line-content : before 35 (no-cr bs) ≡ bs
-  line-content = ap (before 35) (no-cr-whole bs (all-weaker lined (but 13) lined-no-cr bs e)) ∙ before-whole 35 bs (all-weaker lined (but 35) lined-no-hash bs e)
+  line-content = ap (before 35) (no-cr-whole bs (all_weaker lined (but 13) lined-no-cr bs e)) ∙ before-whole 35 bs (all_weaker lined (but 35) lined-no-hash bs e)
 
   pub no-line-end : all (but 10) bs ≡ true
-  no-line-end = all-weaker lined (but 10) lined-no-end bs e
+  no-line-end = all_weaker lined (but 10) lined-no-end bs e
 
 -- cut where the separator stands
 pub pieces-at : (s : ℕ) (p rest : List ℕ) → all (but s) p ≡ true → pieces s (p ++ s ∷ rest) ≡ p ∷ pieces s rest
 pieces-at s [] rest e = ap (λ (t : Bool). cut t s (pieces s rest)) (eq-eqb s s refl)
 pieces-at s (b ∷ p) rest e =
-    let q = and-parts (but s b) (all (but s) p) e in
-    ap (λ (t : Bool). cut t b (pieces s (p ++ s ∷ rest))) (not-true (eqb b s) (q .0)) ∙ ap (cut false b) (pieces-at s p rest (q .1))
+    let q = and_parts (but s b) (all (but s) p) e in
+    ap (λ (t : Bool). cut t b (pieces s (p ++ s ∷ rest))) (not-true (eqb b s) q.0) ∙ ap (cut false b) (pieces-at s p rest q.1)
 
 pub pieces-one : (s : ℕ) (p : List ℕ) → all (but s) p ≡ true → pieces s p ≡ p ∷ []
 pieces-one s [] e = refl
 pieces-one s (b ∷ p) e =
-    let q = and-parts (but s b) (all (but s) p) e in
-    ap (λ (t : Bool). cut t b (pieces s p)) (not-true (eqb b s) (q .0)) ∙ ap (cut false b) (pieces-one s p (q .1))
+    let q = and_parts (but s b) (all (but s) p) e in
+    ap (λ (t : Bool). cut t b (pieces s p)) (not-true (eqb b s) q.0) ∙ ap (cut false b) (pieces-one s p q.1)

@@ -1,16 +1,11 @@
 -- What a function of the reader promises, where the grammar has an answer or refuses.
-use mathlib.Core.Path.{_≡_}
-use mathlib.Core.Option.{Option, some, none}
-use Rattle·std.specs.declared.result.Result.{Result}
-use Rattle·std.specs.declared.result.Result.the-variants.{Ok, Err}
-use mathlib.Core.List.{List}
-use Prim.Native.Nat.{ℕ}
-use Rattle·std.specs.Text.{Utf8}
-use Rattle·text·specs.declared.source.Source.{Source}
-use Rattle·text·specs.Grammar.{reads}
-use Rattle·text·specs.Meaning.{listing}
-use Rattle·text·specs.declared.faults.Fault.{Fault}
-use Rattle·text·specs.declared.faults.Fault.the-variants.{Memory, Refused}
+use Rattle.std.specs.Prelude.{◌≡◌, ℕ, List, Ok, Err, IsUtf8, Result}
+use Rattle.std.proofs.Math.Option.{Option, some, none}
+use Rattle.text.specs.declared.source.Source.{Source}
+use Rattle.text.specs.Grammar.{reads}
+use Rattle.text.specs.Meaning.{listing}
+use Rattle.text.specs.declared.faults.Fault.{Fault}
+use Rattle.text.specs.declared.faults.Fault.TheVariants.{Memory, Refused}
 
 -- the text is at fault, and not the memory
 abbrev pub Refusal : Fault → Type 0
@@ -24,5 +19,5 @@ Answers (Err e) f o = Refusal e → o ≡ none
 
 -- the same of bytes, which are refused where they are no text
 abbrev pub Reading : List ℕ → Result Source Fault → Type 0
-Reading bs (Ok s) = Utf8 bs × (reads bs ≡ some (listing s))
-Reading bs (Err e) = Refusal e → Utf8 bs → reads bs ≡ none
+Reading bs (Ok s) = IsUtf8 bs × (reads bs ≡ some (listing s))
+Reading bs (Err e) = Refusal e → IsUtf8 bs → reads bs ≡ none

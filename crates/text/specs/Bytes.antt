@@ -1,37 +1,33 @@
 -- Bytes, words, and a text cut into pieces, lines and tokens. A text is the list of its bytes.
-use mathlib.Core.Bool.{Bool, true, false, _&&_, _||_, not}
-use mathlib.Core.List.{List, [], _∷_, _++_}
-use mathlib.Core.Option.{Option, some, none}
-use Prim.Native.Nat.{ℕ, zero, suc}
-use lib.Dec.{eqb, leb}
-use lib.ListN.{take}
-use Rattle·model.specs.Code.{pick, opt}
+use Rattle.std.specs.Prelude.{ℕ, zero, suc, Bool, true, false, not, ◌&&◌, ◌||◌, List, [], ◌∷◌, ◌++◌, take, ◌==◌, nat_le}
+use Rattle.std.proofs.Math.Option.{Option, some, none}
+use Rattle.model.specs.Code.{pick, opt}
 
 abbrev pub Word : Type 0
 Word = List ℕ
 
 -- b lies between a and z
 abbrev pub within : ℕ → ℕ → ℕ → Bool
-within a z b = leb a b && leb b z
+within a z b = nat_le a b && nat_le b z
 
 abbrev pub digit : ℕ → Bool
 digit b = within 48 57 b
 
 -- what words are made of: letters, digits, `_` and `-`
 abbrev pub letter : ℕ → Bool
-letter b = within 97 122 b || (within 65 90 b || (digit b || (eqb b 95 || eqb b 45)))
+letter b = within 97 122 b || (within 65 90 b || (digit b || (b == 95 || b == 45)))
 
 -- a blank or a tab
 abbrev pub blank : ℕ → Bool
-blank b = eqb b 32 || eqb b 9
+blank b = b == 32 || b == 9
 
 -- one of `=`, `+`, `[` and `]`
 abbrev pub sign : ℕ → Bool
-sign b = eqb b 61 || (eqb b 43 || (eqb b 91 || eqb b 93))
+sign b = b == 61 || (b == 43 || (b == 91 || b == 93))
 
 -- what may stand in a line, in a comment too: a tab, or anything but control characters
 abbrev pub plain : ℕ → Bool
-plain b = eqb b 9 || (leb 32 b && not (eqb b 127))
+plain b = b == 9 || (nat_le 32 b && not (b == 127))
 
 -- each of the bytes passes the test
 abbrev pub all : (ℕ → Bool) → List ℕ → Bool
@@ -51,12 +47,12 @@ abbrev pub same : List ℕ → List ℕ → Bool
 same [] [] = true
 same [] (c ∷ cs) = false
 same (b ∷ bs) [] = false
-same (b ∷ bs) (c ∷ cs) = eqb b c && same bs cs
+same (b ∷ bs) (c ∷ cs) = b == c && same bs cs
 
 -- the number of a word in a list, counted from 0; none where it is not there
-abbrev pub index-of : Word → List Word → Option ℕ
-index-of w [] = none
-index-of w (v ∷ vs) = pick (same w v) (some 0) (opt (index-of w vs) none (λ n. some (suc n)))
+abbrev pub index_of : Word → List Word → Option ℕ
+index_of w [] = none
+index_of w (v ∷ vs) = pick (same w v) (some 0) (opt (index_of w vs) none (λ n. some (suc n)))
 
 abbrev pub has : Word → List Word → Bool
 has w [] = false
@@ -71,11 +67,11 @@ cut false b (p ∷ ps) = (b ∷ p) ∷ ps
 -- what stands between one s and the next: one piece more than there are s
 abbrev pub pieces : ℕ → List ℕ → List (List ℕ)
 pieces s [] = [] ∷ []
-pieces s (b ∷ bs) = cut (eqb b s) b (pieces s bs)
+pieces s (b ∷ bs) = cut (b == s) b (pieces s bs)
 
 -- any byte but s
 abbrev pub but : ℕ → ℕ → Bool
-but s b = not (eqb b s)
+but s b = not (b == s)
 
 -- how many bytes at the front pass the test
 abbrev pub run : (ℕ → Bool) → List ℕ → ℕ
@@ -89,7 +85,7 @@ before s bs = take (run (but s) bs) bs
 -- a line without the CR that it may end in
 abbrev pub no-cr : List ℕ → List ℕ
 no-cr [] = []
-no-cr (b ∷ []) = pick (eqb b 13) [] (b ∷ [])
+no-cr (b ∷ []) = pick (b == 13) [] (b ∷ [])
 no-cr (b ∷ c ∷ bs) = b ∷ no-cr (c ∷ bs)
 
 -- tokens found so far, and the letters of a word that has begun
@@ -105,12 +101,12 @@ ended ts (b ∷ w) = ts ++ (b ∷ w) ∷ []
 -- one byte more: a letter goes on with a word, a blank or a sign ends it, and a sign is a token itself
 abbrev pub scan : Scan → ℕ → Option Scan
 scan s b =
-    pick (letter b) (some (record { found = s .found; begun = s .begun ++ b ∷ [] }))
-    (pick (blank b) (some (record { found = ended (s .found) (s .begun); begun = [] }))
-    (pick (sign b) (some (record { found = ended (s .found) (s .begun) ++ (b ∷ []) ∷ []; begun = [] })) none))
+    pick (letter b) (some (record { found = s.found; begun = s.begun ++ b ∷ [] }))
+    (pick (blank b) (some (record { found = ended s.found s.begun; begun = [] }))
+    (pick (sign b) (some (record { found = ended s.found s.begun ++ (b ∷ []) ∷ []; begun = [] })) none))
 
 abbrev pub tokens-on : Scan → List ℕ → Option (List Word)
-tokens-on s [] = some (ended (s .found) (s .begun))
+tokens-on s [] = some (ended s.found s.begun)
 tokens-on s (b ∷ bs) = opt (scan s b) none (λ s. tokens-on s bs)
 
 -- the words and signs of a text; none where another byte comes

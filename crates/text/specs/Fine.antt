@@ -1,15 +1,10 @@
 -- The listings that are read back as they were printed.
-use mathlib.Core.Path.{_≡_}
-use mathlib.Core.Bool.{Bool, true, false, _&&_, not}
-use mathlib.Core.List.{List, [], _∷_, _++_}
-use mathlib.Core.Option.{Option, some, none}
-use Prim.Native.Nat.{ℕ, zero, suc, _≤_}
-use lib.Dec.{T, eqb, ltb}
-use lib.ListN.{length}
-use Rattle·model.specs.Code.{pick, opt, nth, I, sets, adds, loads, stores, fence, Thread, Prog, ok}
-use Rattle·text·specs.Bytes.{Word, digit, all, word, has}
-use Rattle·text·specs.Grammar.{Column, names, Listing, program, reads}
-use Rattle·text·specs.Shows.{height, shows}
+use Rattle.std.specs.Prelude.{◌≡◌, ℕ, zero, suc, ◌≤◌, Bool, true, false, not, ◌&&◌, T, List, [], ◌∷◌, ◌++◌, length, ◌==◌, nat_lt}
+use Rattle.std.proofs.Math.Option.{Option, some, none}
+use Rattle.model.specs.Code.{pick, opt, nth, I, sets, adds, loads, stores, fence, Thread, Prog, ok}
+use Rattle.text.specs.Bytes.{Word, digit, all, word, has}
+use Rattle.text.specs.Grammar.{Column, names, Listing, program, reads}
+use Rattle.text.specs.Shows.{height, shows}
 
 -- each a word, and each once
 abbrev pub apart : List Word → Bool
@@ -23,7 +18,7 @@ no-numerals (w ∷ ws) = not (all digit w) && no-numerals ws
 
 -- how many places are seen, where n were and then x comes; none where one is passed over
 abbrev pub see : ℕ → ℕ → Option ℕ
-see n x = pick (ltb x n) (some n) (pick (eqb x n) (some (suc n)) none)
+see n x = pick (nat_lt x n) (some n) (pick (x == n) (some (suc n)) none)
 
 abbrev pub seen-i : ℕ → I → Option ℕ
 seen-i n (sets r m) = some n
@@ -56,8 +51,8 @@ Named (n ∷ ns) p = Ordered (n ∷ ns) p
 
 pub record Fine (l : Listing) : Type 0 where
   pub within : T (ok (program l))
-  pub names : T (apart (names (l .columns)))
-  pub places : Named (l .places) (program l)
+  pub names : T (apart (names l.columns))
+  pub places : Named l.places (program l)
 
 -- what is printed of a fine listing is read back as that listing
 abbrev pub Round-trip : Type 0

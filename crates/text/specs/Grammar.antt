@@ -2,15 +2,10 @@
 -- The first line that is not blank names the threads; each line after it has a cell for each thread, from top to
 -- bottom their instructions. Reading goes line by line, and in a line from left to right, with a page of what has
 -- been read so far.
-use mathlib.Core.Bool.{Bool, true, false, _&&_, not}
-use mathlib.Core.List.{List, [], _∷_, _++_, map}
-use mathlib.Core.Option.{Option, some, none}
-use Prim.Native.Nat.{ℕ, zero, suc, _-_}
-use lib.Chars.{codes}
-use lib.Dec.{eqb, leb, ltb}
-use lib.ListN.{length}
-use Rattle·model.specs.Code.{pick, opt, nth, put, I, sets, adds, loads, stores, fence, Thread, Prog}
-use Rattle·text·specs.Bytes.{Word, within, digit, blank, plain, all, empty, word, same, index-of, has, pieces, before, no-cr, tokens}
+use Rattle.std.specs.Prelude.{ℕ, zero, suc, ◌-◌, Bool, true, false, not, ◌&&◌, List, [], ◌∷◌, ◌++◌, map, length, codes, ◌==◌, nat_lt}
+use Rattle.std.proofs.Math.Option.{Option, some, none}
+use Rattle.model.specs.Code.{pick, opt, nth, put, I, sets, adds, loads, stores, fence, Thread, Prog}
+use Rattle.text.specs.Bytes.{Word, within, digit, blank, plain, all, empty, word, same, index_of, has, pieces, before, no-cr, tokens}
 
 -- a thread with its name
 pub record Column : Type 0 where
@@ -18,7 +13,7 @@ pub record Column : Type 0 where
   pub code : Thread
 
 abbrev pub names : List Column → List Word
-names cs = map (λ (c : Column). c .name) cs
+names cs = map (λ (c : Column). c.name) cs
 
 -- a program with its names: its threads, and the words that its places are named by, in the places' order (no words
 -- where the places are numerals)
@@ -27,7 +22,7 @@ pub record Listing : Type 0 where
   pub places : List Word
 
 abbrev pub program : Listing → Prog
-program l = map (λ (c : Column). c .code) (l .columns)
+program l = map (λ (c : Column). c.code) l.columns
 
 -- how places are named so far: by numerals, or by words, of which these have come
 pub record Places : Type 0 where
@@ -43,14 +38,14 @@ pub record Page : Type 0 where
 abbrev pub register : Word → Option ℕ
 register [] = none
 register (b ∷ []) = none
-register (b ∷ c ∷ []) = pick (eqb b 114 && within 48 51 c) (some (c - 48)) none
+register (b ∷ c ∷ []) = pick (b == 114 && within 48 51 c) (some (c - 48)) none
 register (b ∷ c ∷ d ∷ w) = none
 
 -- 0 to 15, without noughts in front
 abbrev pub number : Word → Option ℕ
 number [] = none
 number (b ∷ []) = pick (digit b) (some (b - 48)) none
-number (b ∷ c ∷ []) = pick (eqb b 49 && within 48 53 c) (some (c - 38)) none
+number (b ∷ c ∷ []) = pick (b == 49 && within 48 53 c) (some (c - 38)) none
 number (b ∷ c ∷ d ∷ w) = none
 
 -- 0 to 7
@@ -61,19 +56,19 @@ numeral (b ∷ c ∷ w) = none
 
 -- a place by its numeral, unless places are named by words
 abbrev pub by-numeral : Places → Word → Option (Places × ℕ)
-by-numeral ps w = pick (empty (ps .words)) (opt (numeral w) none (λ x. some (record { numerals = true; words = ps .words }, x))) none
+by-numeral ps w = pick (empty ps.words) (opt (numeral w) none (λ x. some (record { numerals = true; words = ps.words }, x))) none
 
 -- a place by its word, unless places are named by numerals: the one of that name, else the next, of eight
-abbrev pub by-word : Places → Word → Option (Places × ℕ)
-by-word ps w =
-    pick (ps .numerals) none
-    (opt (index-of w (ps .words))
-    (pick (ltb (length (ps .words)) 8) (some (record { numerals = false; words = ps .words ++ w ∷ [] }, length (ps .words))) none)
+abbrev pub by_word : Places → Word → Option (Places × ℕ)
+by_word ps w =
+    pick ps.numerals none
+    (opt (index_of w ps.words)
+    (pick (nat_lt (length ps.words) 8) (some (record { numerals = false; words = ps.words ++ w ∷ [] }, length ps.words)) none)
     (λ x. some (ps, x)))
 
 -- a word of digits alone is a numeral
 abbrev pub place : Places → Word → Option (Places × ℕ)
-place ps w = pick (word w) (pick (all digit w) (by-numeral ps w) (by-word ps w)) none
+place ps w = pick (word w) (pick (all digit w) (by-numeral ps w) (by_word ps w)) none
 
 -- r1 = r2 + r3
 abbrev pub sum : Places → Word → Word → Word → Option (Places × I)
@@ -81,11 +76,11 @@ sum ps r a b = opt (register r) none (λ r. opt (register a) none (λ a. opt (re
 
 -- r1 = [place]
 abbrev pub load : Places → Word → Word → Option (Places × I)
-load ps r x = opt (register r) none (λ r. opt (place ps x) none (λ q. some (q .0, loads r (q .1))))
+load ps r x = opt (register r) none (λ r. opt (place ps x) none (λ q. some (q.0, loads r q.1)))
 
 -- [place] = r1
 abbrev pub store : Places → Word → Word → Option (Places × I)
-store ps x r = opt (place ps x) none (λ q. opt (register r) none (λ r. some (q .0, stores (q .1) r)))
+store ps x r = opt (place ps x) none (λ q. opt (register r) none (λ r. some (q.0, stores q.1 r)))
 
 -- r1 = 7
 abbrev pub set : Places → Word → Word → Option (Places × I)
@@ -106,19 +101,19 @@ instruction ps (a ∷ b ∷ c ∷ d ∷ e ∷ f ∷ ts) = none
 
 -- i behind the others
 abbrev pub longer : Column → I → Column
-longer c i = record { name = c .name; code = c .code ++ i ∷ [] }
+longer c i = record { name = c.name; code = c.code ++ i ∷ [] }
 
 -- a cell of the column c with these tokens: none say nothing, others are an instruction, of at most eight
 abbrev pub does : Places → Column → List Word → Option (Places × Column)
 does ps c [] = some (ps, c)
 does ps c (t ∷ ts) =
-    pick (ltb (length (c .code)) 8) (opt (instruction ps (t ∷ ts)) none (λ q. some (q .0, longer c (q .1)))) none
+    pick (nat_lt (length c.code) 8) (opt (instruction ps (t ∷ ts)) none (λ q. some (q.0, longer c q.1))) none
 
 -- a cell of column k, if there is one
 abbrev pub cell : ℕ → Page → List ℕ → Option Page
 cell k s bs =
-    opt (nth (s .columns) k) none (λ c. opt (tokens bs) none (λ ts. opt (does (s .places) c ts) none (λ q.
-    some (record { columns = put (s .columns) k (q .1); places = q .0 }))))
+    opt (nth s.columns k) none (λ c. opt (tokens bs) none (λ ts. opt (does s.places c ts) none (λ q.
+    some (record { columns = put s.columns k q.1; places = q.0 }))))
 
 -- the cells of a line from column k on
 abbrev pub row : ℕ → Page → List (List ℕ) → Option Page
@@ -128,16 +123,16 @@ row k s (c ∷ cs) = opt (cell k s c) none (λ s. row (suc k) s cs)
 -- the tokens of a thread's name: one word that is none of ns, of which there are at most three
 abbrev pub name : List Word → List Word → Option Word
 name ns [] = none
-name ns (w ∷ []) = pick (word w && (not (has w ns) && ltb (length ns) 4)) (some w) none
+name ns (w ∷ []) = pick (word w && (not (has w ns) && nat_lt (length ns) 4)) (some w) none
 name ns (w ∷ v ∷ ws) = none
 
 -- one column more
 abbrev pub begin : Page → Word → Page
-begin s w = record { columns = s .columns ++ record { name = w; code = [] } ∷ []; places = s .places }
+begin s w = record { columns = s.columns ++ record { name = w; code = [] } ∷ []; places = s.places }
 
 -- a cell of the line that names the threads
 abbrev pub begins : Page → List ℕ → Option Page
-begins s c = opt (tokens c) none (λ ts. opt (name (names (s .columns)) ts) none (λ w. some (begin s w)))
+begins s c = opt (tokens c) none (λ ts. opt (name (names s.columns) ts) none (λ w. some (begin s w)))
 
 -- one piece of text after another
 abbrev pub each : (Page → List ℕ → Option Page) → Page → List (List ℕ) → Option Page
@@ -146,7 +141,7 @@ each f s (p ∷ ps) = opt (f s p) none (λ s. each f s ps)
 
 -- what stands in a line before a comment
 abbrev pub content : Page → List ℕ → Option Page
-content s c = pick (all blank c) (some s) (pick (empty (s .columns)) (each begins s (pieces 124 c)) (row 0 s (pieces 124 c)))
+content s c = pick (all blank c) (some s) (pick (empty s.columns) (each begins s (pieces 124 c)) (row 0 s (pieces 124 c)))
 
 -- a line: text throughout; `#` begins a comment
 abbrev pub line : Page → List ℕ → Option Page
@@ -157,7 +152,7 @@ blank-page = record { columns = []; places = record { numerals = false; words = 
 
 -- a page is whole once the threads are named
 abbrev pub whole : Page → Option Listing
-whole s = pick (empty (s .columns)) none (some (record { columns = s .columns; places = s .places .words }))
+whole s = pick (empty s.columns) none (some (record { columns = s.columns; places = s.places.words }))
 
 -- the listing that a text says; none where it is refused
 abbrev pub reads : List ℕ → Option Listing

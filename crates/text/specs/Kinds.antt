@@ -1,13 +1,9 @@
 -- What the kinds of bytes mean, and what cutting a token off promises.
-use mathlib.Core.Path.{_≡_}
-use mathlib.Core.Bool.{Bool, true, false}
-use mathlib.Core.List.{List, [], _∷_, _++_}
-use mathlib.Core.Option.{none}
-use Prim.Native.Nat.{ℕ, _≤_, _<_}
-use lib.ListN.{length, getD, take, drop}
-use Rattle·text·specs.declared.bytes.Kind.{Kind}
-use Rattle·text·specs.declared.bytes.Kind.the-variants.{Letter, Digit, Blank, Sign, Plain, But}
-use Rattle·text·specs.Bytes.{Word, letter, digit, blank, sign, plain, but, tokens-on}
+use Rattle.std.specs.Prelude.{◌≡◌, ℕ, ◌<◌, ◌≤◌, Bool, true, false, List, [], ◌∷◌, ◌++◌, length, take, drop, slice_index}
+use Rattle.std.proofs.Math.Option.{none}
+use Rattle.text.specs.declared.bytes.Kind.{Kind}
+use Rattle.text.specs.declared.bytes.Kind.TheVariants.{Letter, Digit, Blank, Sign, Plain, But}
+use Rattle.text.specs.Bytes.{Word, letter, digit, blank, sign, plain, but, tokens-on}
 
 abbrev pub test : Kind → ℕ → Bool
 test Letter = letter
@@ -20,5 +16,5 @@ test (But s) = but s
 -- the first n bytes of bs are its first token, or none begins there
 pub record First-token (bs : List ℕ) (n : ℕ) : Type 0 where
   pub within : n ≤ length bs
-  pub refused : n ≡ 0 → 0 < length bs → blank (getD bs 0 0) ≡ false → (ts : List Word) → tokens-on (record { found = ts; begun = [] }) bs ≡ none
+  pub refused : n ≡ 0 → 0 < length bs → blank (slice_index bs 0) ≡ false → (ts : List Word) → tokens-on (record { found = ts; begun = [] }) bs ≡ none
   pub cut : 0 < n → (ts : List Word) → tokens-on (record { found = ts; begun = [] }) bs ≡ tokens-on (record { found = ts ++ take n bs ∷ []; begun = [] }) (drop n bs)

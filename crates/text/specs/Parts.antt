@@ -1,12 +1,8 @@
 -- What the printer puts down for one column of a line.
-use mathlib.Core.Bool.{Bool, true, false, _&&_}
-use mathlib.Core.List.{List, [], _∷_, _++_}
-use Prim.Native.Nat.{ℕ, zero, suc, _-_}
-use lib.Chars.{codes}
-use lib.ListN.{length, replicate}
-use Rattle·text·specs.Bytes.{Word, empty}
-use Rattle·text·specs.Grammar.{Column}
-use Rattle·text·specs.Shows.{show-cell, width}
+use Rattle.std.specs.Prelude.{ℕ, zero, suc, ◌-◌, Bool, true, false, ◌&&◌, List, [], ◌∷◌, ◌++◌, length, replicate, codes}
+use Rattle.text.specs.Bytes.{Word, empty}
+use Rattle.text.specs.Grammar.{Column}
+use Rattle.text.specs.Shows.{show-cell, width}
 
 -- the blank before column k: none before the first, and none where nothing follows
 abbrev pub gap : ℕ → Bool → List ℕ

@@ -1,15 +1,10 @@
 -- How a program with its names is printed: a line for the names, then a line for each row of cells, lined up in
 -- columns. It says what is printed of any listing; that it is read back is said of fine ones (Fine).
-use mathlib.Core.Bool.{Bool, true, false}
-use mathlib.Core.List.{List, [], _∷_, _++_}
-use mathlib.Core.Option.{Option, some, none}
-use Prim.Native.Nat.{ℕ, zero, suc, _-_, max}
-use lib.Chars.{codes}
-use lib.ListN.{length, replicate}
-use Rattle·std.specs.Written.{decimal}
-use Rattle·model.specs.Code.{opt, nth, I, sets, adds, loads, stores, fence, Thread, Prog}
-use Rattle·text·specs.Bytes.{Word}
-use Rattle·text·specs.Grammar.{Column, Listing, program}
+use Rattle.std.specs.Prelude.{ℕ, zero, suc, ◌-◌, max, Bool, true, false, List, [], ◌∷◌, ◌++◌, length, replicate, codes, decimal}
+use Rattle.std.proofs.Math.Option.{Option, some, none}
+use Rattle.model.specs.Code.{opt, nth, I, sets, adds, loads, stores, fence, Thread, Prog}
+use Rattle.text.specs.Bytes.{Word}
+use Rattle.text.specs.Grammar.{Column, Listing, program}
 
 abbrev pub show-register : ℕ → Word
 show-register r = 114 ∷ decimal r
@@ -27,8 +22,8 @@ show-i ns fence = codes "fence"
 
 -- the cell of a column in line j: the thread's name in line 0, its j-th instruction in line j, or nothing
 abbrev pub show-cell : List Word → Column → ℕ → List ℕ
-show-cell ns c zero = c .name
-show-cell ns c (suc j) = opt (nth (c .code) j) [] (show-i ns)
+show-cell ns c zero = c.name
+show-cell ns c (suc j) = opt (nth c.code j) [] (show-i ns)
 
 -- w, or more where one of the instructions needs more
 abbrev pub widest : List Word → ℕ → Thread → ℕ
@@ -36,7 +31,7 @@ widest ns w [] = w
 widest ns w (i ∷ is) = widest ns (max w (length (show-i ns i))) is
 
 abbrev pub width : List Word → Column → ℕ
-width ns c = widest ns (length (c .name)) (c .code)
+width ns c = widest ns (length c.name) c.code
 
 -- a blank before what is not empty
 abbrev pub spaced : List ℕ → List ℕ
@@ -57,7 +52,7 @@ show-line ns j (c ∷ d ∷ cs) = filled ns c j ++ (codes " |" ++ spaced (show-l
 -- n lines from line j on
 abbrev pub show-lines : Listing → ℕ → ℕ → List ℕ
 show-lines l j zero = []
-show-lines l j (suc n) = show-line (l .places) j (l .columns) ++ (10 ∷ show-lines l (suc j) n)
+show-lines l j (suc n) = show-line l.places j l.columns ++ (10 ∷ show-lines l (suc j) n)
 
 -- as many instructions as the longest thread has
 abbrev pub height : Prog → ℕ

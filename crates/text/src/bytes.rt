@@ -1,9 +1,7 @@
 // Bytes by their kinds, and how far a run of one kind goes.
-ghost use mathlib.Core.Path.{_≡_};
-ghost use Prim.Native.Nat.{_≤_};
-ghost use lib.ListN.{length};
-ghost use Rattle·text·specs.Bytes.{run, all, word, same};
-ghost use Rattle·text·specs.Kinds.{test};
+ghost use Rattle.std.specs.Prelude.{◌≡◌, ◌≤◌, length};
+ghost use Rattle.text.specs.Bytes.{run, all, word, same};
+ghost use Rattle.text.specs.Kinds.{test};
 
 #[derive(Clone, Copy)]
 pub enum Kind {
@@ -22,7 +20,7 @@ pub enum Kind {
 
 impl Kind {
     pub fn has(self, b: u8) -> bool
-        ensures { λ r. ⌜ r ≡ test self b ⌝ }
+        ensures { result ≡ test self b }
     {
         match self {
             Kind::Letter => matches!(b, b'a'..=b'z' | b'A'..=b'Z' | b'0'..=b'9' | b'_' | b'-'),
@@ -36,8 +34,8 @@ impl Kind {
 
     // How many bytes at the front are of this kind.
     pub fn run(self, bytes: &[u8]) -> usize
-        ensures value { λ r. ⌜ r ≡ run (test self) (now (bytes .entry)) ⌝ }
-        ensures within { λ r. ⌜ r ≤ length (now (bytes .entry)) ⌝ }
+        ensures value { result ≡ run (test self) bytes.now }
+        ensures within { result ≤ length bytes.now }
     {
         for (i, b) in bytes.iter().enumerate() {
             if !self.has(*b) {
@@ -49,7 +47,7 @@ impl Kind {
 
     // Whether each byte is of this kind.
     pub fn all(self, bytes: &[u8]) -> bool
-        ensures { λ r. ⌜ r ≡ all (test self) (now (bytes .entry)) ⌝ }
+        ensures { result ≡ all (test self) bytes.now }
     {
         self.run(bytes) == bytes.len()
     }
@@ -57,14 +55,14 @@ impl Kind {
 
 // Whether these bytes are a word.
 pub fn is_word(bytes: &[u8]) -> bool
-    ensures { λ r. ⌜ r ≡ word (now (bytes .entry)) ⌝ }
+    ensures { result ≡ word bytes.now }
 {
     !bytes.is_empty() && Kind::Letter.all(bytes)
 }
 
 // Whether these are the same bytes.
 pub fn same(a: &[u8], b: &[u8]) -> bool
-    ensures { λ r. ⌜ r ≡ same (now (a .entry)) (now (b .entry)) ⌝ }
+    ensures { result ≡ same a.now b.now }
 {
     a == b
 }

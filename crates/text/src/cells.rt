@@ -1,27 +1,22 @@
 // The instruction of a cell.
-ghost use lib.Chars.{codes};
-ghost use mathlib.Core.Bool.{_&&_};
-ghost use mathlib.Core.List.{map, _∷_, []};
-ghost use mathlib.Core.Path.{_≡_};
-ghost use Rattle·program.specs.Instructions.{instruction as meant};
-ghost use Rattle·text·specs.Answers.{Answers};
-ghost use Rattle·text·specs.Bytes.{same};
-ghost use Rattle·text·specs.Grammar.{Places as Named, register, number, set, sum, load, store, instruction};
-ghost use Rattle·text·specs.Meaning.{places, option, token};
+ghost use Rattle.std.specs.Prelude.{◌≡◌, ◌&&◌, [], ◌∷◌, map, codes};
+ghost use Rattle.program.specs.Instructions.{instruction as meant};
+ghost use Rattle.text.specs.Answers.{Answers};
+ghost use Rattle.text.specs.Bytes.{same};
+ghost use Rattle.text.specs.Grammar.{Places as Named, register, number, set, sum, load, store, instruction};
+ghost use Rattle.text.specs.Meaning.{places, option, token};
+
 use crate::bytes;
-use crate::faults::Expected;
-use crate::faults::Fault;
-use crate::faults::Spot;
+use crate::faults::{Expected, Fault, Spot};
 use crate::misfits::misfit;
 use crate::places::Places;
 use crate::tokens::Token;
-use program::instructions::Instruction;
-use program::instructions::Register;
+use program::instructions::{Instruction, Register};
 use std::alloc::Global;
 
 // r0 to r3.
 fn register_of(word: &[u8]) -> Option<u32>
-    ensures { λ r. ⌜ option r ≡ register (now (word .entry)) ⌝ }
+    ensures { option result ≡ register word.now }
 {
     match word {
         [b'r', b @ b'0'..=b'3'] => Some(u32::from(*b - b'0')),
@@ -31,7 +26,7 @@ fn register_of(word: &[u8]) -> Option<u32>
 
 // 0 to 15, without noughts in front.
 fn number_of(word: &[u8]) -> Option<u32>
-    ensures { λ r. ⌜ option r ≡ number (now (word .entry)) ⌝ }
+    ensures { option result ≡ number word.now }
 {
     match word {
         [b @ b'0'..=b'9'] => Some(u32::from(*b - b'0')),
@@ -41,7 +36,7 @@ fn number_of(word: &[u8]) -> Option<u32>
 }
 
 fn register(heap: Global, word: &[u8], spot: Spot) -> Result<Register, Fault>
-    ensures { λ r. ⌜ Answers r (λ x. x .0) (register (now (word .entry))) ⌝ }
+    ensures { Answers result (λ x. x.0) (register word.now) }
 {
     match register_of(word) {
         Some(r) => Ok(Register(r)),
@@ -50,7 +45,7 @@ fn register(heap: Global, word: &[u8], spot: Spot) -> Result<Register, Fault>
 }
 
 fn number(heap: Global, word: &[u8], spot: Spot) -> Result<u32, Fault>
-    ensures { λ r. ⌜ Answers r (λ n. n) (number (now (word .entry))) ⌝ }
+    ensures { Answers result (λ n. n) (number word.now) }
 {
     match number_of(word) {
         Some(n) => Ok(n),
@@ -60,7 +55,7 @@ fn number(heap: Global, word: &[u8], spot: Spot) -> Result<u32, Fault>
 
 // r1 = 7
 fn set(heap: Global, a: Token<'_>, c: Token<'_>) -> Result<Instruction, Fault>
-    ensures { λ r. ⌜ ((ps : Named) → Answers r (λ i. (ps, meant i)) (set ps (token (a .entry)) (token (c .entry)))) ⌝ }
+    ensures { (ps : Named) → Answers result (λ i. (ps, meant i)) (set ps (token a.entry) (token c.entry)) }
 {
     let r = register(heap, a.text, a.spot)?;
     let n = number(heap, c.text, c.spot)?;
@@ -69,7 +64,7 @@ fn set(heap: Global, a: Token<'_>, c: Token<'_>) -> Result<Instruction, Fault>
 
 // r1 = r2 + r3
 fn sum(heap: Global, a: Token<'_>, c: Token<'_>, e: Token<'_>) -> Result<Instruction, Fault>
-    ensures { λ r. ⌜ ((ps : Named) → Answers r (λ i. (ps, meant i)) (sum ps (token (a .entry)) (token (c .entry)) (token (e .entry)))) ⌝ }
+    ensures { (ps : Named) → Answers result (λ i. (ps, meant i)) (sum ps (token a.entry) (token c.entry) (token e.entry)) }
 {
     let r = register(heap, a.text, a.spot)?;
     let first = register(heap, c.text, c.spot)?;
@@ -79,7 +74,7 @@ fn sum(heap: Global, a: Token<'_>, c: Token<'_>, e: Token<'_>) -> Result<Instruc
 
 // r1 = [place]
 fn load(heap: Global, named: &mut Places, a: Token<'_>, d: Token<'_>) -> Result<Instruction, Fault>
-    ensures { λ r. ⌜ Answers r (λ i. (places (now (named .exit)), meant i)) (load (places (now (named .entry))) (token (a .entry)) (token (d .entry))) ⌝ }
+    ensures { Answers result (λ i. (places named.new, meant i)) (load (places named.old) (token a.entry) (token d.entry)) }
 {
     let r = register(heap, a.text, a.spot)?;
     let x = named.place(heap, d.text, d.spot)?;
@@ -88,7 +83,7 @@ fn load(heap: Global, named: &mut Places, a: Token<'_>, d: Token<'_>) -> Result<
 
 // [place] = r1
 fn store(heap: Global, named: &mut Places, b: Token<'_>, e: Token<'_>) -> Result<Instruction, Fault>
-    ensures { λ r. ⌜ Answers r (λ i. (places (now (named .exit)), meant i)) (store (places (now (named .entry))) (token (b .entry)) (token (e .entry))) ⌝ }
+    ensures { Answers result (λ i. (places named.new, meant i)) (store (places named.old) (token b.entry) (token e.entry)) }
 {
     let x = named.place(heap, b.text, b.spot)?;
     let r = register(heap, e.text, e.spot)?;
@@ -96,26 +91,26 @@ fn store(heap: Global, named: &mut Places, b: Token<'_>, e: Token<'_>) -> Result
 }
 
 fn is_sum(b: Token<'_>, d: Token<'_>) -> bool
-    ensures { λ r. ⌜ r ≡ (same (token (b .entry)) (codes "=") && same (token (d .entry)) (codes "+")) ⌝ }
+    ensures { result ≡ (same (token b.entry) (codes "=") && same (token d.entry) (codes "+")) }
 {
     bytes::same(b.text, b"=") && bytes::same(d.text, b"+")
 }
 
 fn is_load(b: Token<'_>, c: Token<'_>, e: Token<'_>) -> bool
-    ensures { λ r. ⌜ r ≡ (same (token (b .entry)) (codes "=") && (same (token (c .entry)) (codes "[") && same (token (e .entry)) (codes "]"))) ⌝ }
+    ensures { result ≡ (same (token b.entry) (codes "=") && (same (token c.entry) (codes "[") && same (token e.entry) (codes "]"))) }
 {
     bytes::same(b.text, b"=") && bytes::same(c.text, b"[") && bytes::same(e.text, b"]")
 }
 
 fn is_store(a: Token<'_>, c: Token<'_>, d: Token<'_>) -> bool
-    ensures { λ r. ⌜ r ≡ (same (token (a .entry)) (codes "[") && (same (token (c .entry)) (codes "]") && same (token (d .entry)) (codes "="))) ⌝ }
+    ensures { result ≡ (same (token a.entry) (codes "[") && (same (token c.entry) (codes "]") && same (token d.entry) (codes "="))) }
 {
     bytes::same(a.text, b"[") && bytes::same(c.text, b"]") && bytes::same(d.text, b"=")
 }
 
 // The instruction of one token: a fence.
 fn of_one(heap: Global, a: Token<'_>) -> Result<Instruction, Fault>
-    ensures { λ r. ⌜ ((ps : Named) → Answers r (λ i. (ps, meant i)) (instruction ps (token (a .entry) ∷ []))) ⌝ }
+    ensures { (ps : Named) → Answers result (λ i. (ps, meant i)) (instruction ps (token a.entry ∷ [])) }
 {
     if bytes::same(a.text, b"fence") {
         Ok(Instruction::Fence)
@@ -132,7 +127,7 @@ fn of_three(
     c: Token<'_>,
     end: Spot,
 ) -> Result<Instruction, Fault>
-    ensures { λ r. ⌜ ((ps : Named) → Answers r (λ i. (ps, meant i)) (instruction ps (token (a .entry) ∷ token (b .entry) ∷ token (c .entry) ∷ []))) ⌝ }
+    ensures { (ps : Named) → Answers result (λ i. (ps, meant i)) (instruction ps (token a.entry ∷ token b.entry ∷ token c.entry ∷ [])) }
 {
     if bytes::same(b.text, b"=") {
         set(heap, a, c)
@@ -151,7 +146,7 @@ fn of_five(
     d: Token<'_>,
     e: Token<'_>,
 ) -> Result<Instruction, Fault>
-    ensures { λ r. ⌜ Answers r (λ i. (places (now (named .exit)), meant i)) (instruction (places (now (named .entry))) (token (a .entry) ∷ token (b .entry) ∷ token (c .entry) ∷ token (d .entry) ∷ token (e .entry) ∷ [])) ⌝ }
+    ensures { Answers result (λ i. (places named.new, meant i)) (instruction (places named.old) (token a.entry ∷ token b.entry ∷ token c.entry ∷ token d.entry ∷ token e.entry ∷ [])) }
 {
     if is_sum(b, d) {
         return sum(heap, a, c, e);
@@ -172,19 +167,13 @@ pub fn instruction(
     tokens: &[Token<'_>],
     end: Spot,
 ) -> Result<Instruction, Fault>
-    ensures { λ r. ⌜ Answers r (λ i. (places (now (named .exit)), meant i)) (instruction (places (now (named .entry))) (map token (now (tokens .entry)))) ⌝ }
+    ensures { Answers result (λ i. (places named.new, meant i)) (instruction (places named.old) (map token tokens.now)) }
 {
     match tokens.len() {
         1 => of_one(heap, tokens[0]),
         3 => of_three(heap, tokens[0], tokens[1], tokens[2], end),
         5 => of_five(
-            heap,
-            named,
-            tokens[0],
-            tokens[1],
-            tokens[2],
-            tokens[3],
-            tokens[4],
+            heap, named, tokens[0], tokens[1], tokens[2], tokens[3], tokens[4],
         ),
         _ => Err(misfit(heap, tokens, end)),
     }

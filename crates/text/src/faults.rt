@@ -1,10 +1,9 @@
 // Why a text is refused, and where: `line:column: expected .., found ..`. Lines and columns count from 1, and columns
 // count bytes. Before a fault in a line there is only ASCII, unless the fault stands in a comment.
-ghost use mathlib.Core.Path.{_≡_};
-ghost use Rattle·text·specs.declared.faults.Fault.the-variants.{Memory};
-use std::alloc::AllocError;
-use std::alloc::Global;
-use std::alloc::Refused;
+ghost use Rattle.std.specs.Prelude.{◌≡◌};
+ghost use Rattle.text.specs.declared.faults.Fault.TheVariants.{Memory};
+
+use std::alloc::{AllocError, AllocFailed, Global};
 use std::fmt;
 
 #[derive(Debug, Drop)]
@@ -50,18 +49,18 @@ pub enum Found {
     Text(String),
 }
 
-pub impl From<AllocError> for Fault as FaultFromAlloc {
-    ghost converts = { λ _ r. r ≡ Memory };
+impl From<AllocError> for Fault {
+    ghost from_gives = { λ _ r. r ≡ Memory };
 
     fn from(_e: AllocError) -> Fault {
         Fault::Memory
     }
 }
 
-pub impl<T: Drop> From<Refused<T>> for Fault as FaultFromRefused {
-    ghost converts = { λ _ r. r ≡ Memory };
+impl<T: Drop> From<AllocFailed<T>> for Fault {
+    ghost from_gives = { λ _ r. r ≡ Memory };
 
-    fn from(_e: Refused<T>) -> Fault {
+    fn from(_e: AllocFailed<T>) -> Fault {
         Fault::Memory
     }
 }
@@ -129,13 +128,13 @@ impl Expected {
     }
 }
 
-impl fmt::Display for Expected as ExpectedDisplay {
+impl fmt::Display for Expected {
     fn fmt<W: fmt::Write>(&self, f: &mut fmt::Formatter<W>) -> fmt::Result {
         f.write_str(self.words())
     }
 }
 
-impl fmt::Display for Found as FoundDisplay {
+impl fmt::Display for Found {
     fn fmt<W: fmt::Write>(&self, f: &mut fmt::Formatter<W>) -> fmt::Result {
         match self {
             Found::CellEnd => f.write_str("the end of the cell"),
@@ -149,7 +148,7 @@ impl fmt::Display for Found as FoundDisplay {
     }
 }
 
-pub impl fmt::Display for Fault as FaultDisplay {
+impl fmt::Display for Fault {
     fn fmt<W: fmt::Write>(&self, f: &mut fmt::Formatter<W>) -> fmt::Result {
         match self {
             Fault::Memory => f.write_str("no memory"),

@@ -1,9 +1,7 @@
 // Where the tokens of a cell are no instruction, and what was expected there. This only makes the message: that the
 // tokens are no instruction is known before.
 use crate::bytes::Kind;
-use crate::faults::Expected;
-use crate::faults::Fault;
-use crate::faults::Spot;
+use crate::faults::{Expected, Fault, Spot};
 use crate::tokens::Token;
 use std::alloc::Global;
 

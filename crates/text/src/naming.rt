@@ -1,30 +1,21 @@
 // The place that a name stands for.
-ghost use mathlib.Core.Bool.{true};
-ghost use mathlib.Core.Path.{_≡_};
-ghost use mathlib.Core.List.{map};
-ghost use Prim.Native.Nat.{_<_};
-ghost use lib.ListN.{length};
-ghost use Rattle·std.specs.Of.Vec.{vec-items};
-ghost use Rattle·std.specs.Options.{Cases as BySome};
-ghost use Rattle·text·specs.Answers.{Answers};
-ghost use Rattle·text·specs.Bytes.{index-of, word};
-ghost use Rattle·text·specs.Grammar.{numeral, place, by-numeral, by-word};
-ghost use Rattle·text·specs.Meaning.{words, places, option};
+ghost use Rattle.std.specs.Prelude.{◌≡◌, ◌<◌, true, map, length, IfSome};
+ghost use Rattle.text.specs.Answers.{Answers};
+ghost use Rattle.text.specs.Bytes.{index_of, word};
+ghost use Rattle.text.specs.Grammar.{numeral, place, by-numeral, by_word};
+ghost use Rattle.text.specs.Meaning.{words, places, option};
+
 use crate::bytes;
 use crate::bytes::Kind;
-use crate::faults::Expected;
-use crate::faults::Fault;
-use crate::faults::FaultFromAlloc;
-use crate::faults::FaultFromRefused;
-use crate::faults::Spot;
+use crate::faults::{Expected, Fault, Spot};
 use crate::places::Places;
 use program::instructions::Place;
 use std::alloc::Global;
 
 // The number of a word among others.
 fn index_of(all: &[String], word: &[u8]) -> Option<usize>
-    ensures value { λ r. ⌜ option r ≡ index-of (now (word .entry)) (words (now (all .entry))) ⌝ }
-    ensures within { λ r. ⌜ BySome r (Unit {0}) (λ k. k < length (now (all .entry))) ⌝ }
+    ensures value { option result ≡ index_of word.now (words all.now) }
+    ensures within { IfSome result (λ k. k < length all.now) }
 {
     for (k, other) in all.iter().enumerate() {
         if other.as_bytes() == word {
@@ -36,7 +27,7 @@ fn index_of(all: &[String], word: &[u8]) -> Option<usize>
 
 // 0 to 7.
 fn numeral(word: &[u8]) -> Option<u32>
-    ensures { λ r. ⌜ option r ≡ numeral (now (word .entry)) ⌝ }
+    ensures { option result ≡ numeral word.now }
 {
     match word {
         [b @ b'0'..=b'7'] => Some(u32::from(*b - b'0')),
@@ -48,7 +39,7 @@ impl Places {
     // The place of a name: of a numeral the place itself, of a word its number, which is the next one where the word
     // is new.
     pub fn place(&mut self, heap: Global, name: &[u8], spot: Spot) -> Result<Place, Fault>
-        ensures { λ r. ⌜ Answers r (λ x. (places (now (self .exit)), x .0)) (place (places (now (self .entry))) (now (name .entry))) ⌝ }
+        ensures { Answers result (λ x. (places self.new, x.0)) (place (places self.old) name.now) }
     {
         if !bytes::is_word(name) {
             return Err(spot.fault(heap, Expected::Place, name));
@@ -61,7 +52,7 @@ impl Places {
     }
 
     fn by_numeral(&mut self, heap: Global, name: &[u8], spot: Spot) -> Result<Place, Fault>
-        ensures { λ r. ⌜ Answers r (λ x. (places (now (self .exit)), x .0)) (by-numeral (places (now (self .entry))) (now (name .entry))) ⌝ }
+        ensures { Answers result (λ x. (places self.new, x.0)) (by-numeral (places self.old) name.now) }
     {
         if !self.words.is_empty() {
             return Err(spot.fault(heap, Expected::PlaceWord, name));
@@ -74,8 +65,8 @@ impl Places {
     }
 
     fn by_word(&mut self, heap: Global, name: &[u8], spot: Spot) -> Result<Place, Fault>
-        requires { ⌜ word (now name) ≡ true ⌝ }
-        ensures { λ r. ⌜ Answers r (λ x. (places (now (self .exit)), x .0)) (by-word (places (now (self .entry))) (now (name .entry))) ⌝ }
+        requires { word name.now ≡ true }
+        ensures { Answers result (λ x. (places self.new, x.0)) (by_word (places self.old) name.now) }
     {
         if self.numerals {
             return Err(spot.fault(heap, Expected::Numeral, name));

@@ -1,24 +1,16 @@
 // A text read line by line, from left to right, onto a page of what has been read so far.
-ghost use mathlib.Core.List.{map};
-ghost use mathlib.Core.Path.{_≡_};
-ghost use Prim.Native.Nat.{_<_};
-ghost use Rattle·std.specs.Of.Vec.{vec-items, vec-len};
-ghost use Rattle·text·specs.Answers.{Answers};
-ghost use Rattle·text·specs.Bytes.{no-cr, pieces, has};
-ghost use Rattle·text·specs.Grammar.{names, does, cell, row, begins, each, content, line};
-ghost use Rattle·text·specs.Meaning.{token, places, column, page};
-use crate::bytes;
+ghost use Rattle.std.specs.Prelude.{◌≡◌, ◌<◌, map, vec_len};
+ghost use Rattle.text.specs.Answers.{Answers};
+ghost use Rattle.text.specs.Bytes.{no-cr, pieces, has};
+ghost use Rattle.text.specs.Grammar.{names, does, cell, row, begins, each, content, line};
+ghost use Rattle.text.specs.Meaning.{token, places, column, page};
+
 use crate::bytes::Kind;
-use crate::cells;
-use crate::faults::Expected;
-use crate::faults::Fault;
-use crate::faults::FaultFromAlloc;
-use crate::faults::FaultFromRefused;
-use crate::faults::Spot;
+use crate::faults::{Expected, Fault, Spot};
 use crate::places::Places;
 use crate::source::Thread;
-use crate::tokens;
 use crate::tokens::Token;
+use crate::{bytes, cells, tokens};
 use std::alloc::Global;
 
 // A program has one to four threads of at most eight instructions.
@@ -40,7 +32,7 @@ fn does(
     tokens: &[Token<'_>],
     end: Spot,
 ) -> Result<(), Fault>
-    ensures { λ r. ⌜ Answers r (λ _. (places (now (named .exit)), column (now (thread .exit)))) (does (places (now (named .entry))) (column (now (thread .entry))) (map token (now (tokens .entry)))) ⌝ }
+    ensures { Answers result (λ _. (places named.new, column thread.new)) (does (places named.old) (column thread.old) (map token tokens.now)) }
 {
     if tokens.is_empty() {
         return Ok(());
@@ -59,7 +51,7 @@ fn does(
 
 // A line without the CR that it may end in.
 fn without_cr(line: &[u8]) -> &[u8]
-    ensures { λ r. ⌜ now r ≡ no-cr (now (line .entry)) ⌝ }
+    ensures { result.now ≡ no-cr line.now }
 {
     let n = line.len();
     if n == 0 {
@@ -85,8 +77,8 @@ fn misnamed(heap: Global, tokens: &[Token<'_>], spot: Spot) -> Fault {
 impl Page {
     // A cell of thread `k`.
     fn cell(&mut self, heap: Global, k: usize, bytes: &[u8], spot: Spot) -> Result<(), Fault>
-        requires { ⌜ k < vec-len (now self .threads) ⌝ }
-        ensures { λ r. ⌜ Answers r (λ _. page (now (self .exit))) (cell k (page (now (self .entry))) (now (bytes .entry))) ⌝ }
+        requires { k < vec_len self.old.threads }
+        ensures { Answers result (λ _. page self.new) (cell k (page self.old) bytes.now) }
     {
         let tokens = tokens::tokens(heap, bytes, spot)?;
         does(
@@ -100,7 +92,7 @@ impl Page {
     }
     // A line of cells.
     fn row(&mut self, heap: Global, content: &[u8], start: Spot) -> Result<(), Fault>
-        ensures { λ r. ⌜ Answers r (λ _. page (now (self .exit))) (row 0 (page (now (self .entry))) (pieces 124 (now (content .entry)))) ⌝ }
+        ensures { Answers result (λ _. page self.new) (row 0 (page self.old) (pieces 124 content.now)) }
     {
         let mut rest = content;
         let mut spot = start;
@@ -124,7 +116,7 @@ impl Page {
 
     // Whether a thread has this name.
     fn has(&self, word: &[u8]) -> bool
-        ensures { λ r. ⌜ r ≡ has (now (word .entry)) (names (page (now (self .entry)) .columns)) ⌝ }
+        ensures { result ≡ has word.now (names (page self.now).columns) }
     {
         for thread in self.threads.as_slice() {
             if bytes::same(word, thread.name.as_bytes()) {
@@ -136,7 +128,7 @@ impl Page {
 
     // One thread more, of this name.
     fn begin(&mut self, heap: Global, cell: &[u8], spot: Spot) -> Result<(), Fault>
-        ensures { λ r. ⌜ Answers r (λ _. page (now (self .exit))) (begins (page (now (self .entry))) (now (cell .entry))) ⌝ }
+        ensures { Answers result (λ _. page self.new) (begins (page self.old) cell.now) }
     {
         let tokens = tokens::tokens(heap, cell, spot)?;
         if tokens.len() != 1 {
@@ -153,16 +145,15 @@ impl Page {
             return Err(word.spot.fault(heap, Expected::FourThreads, word.text));
         }
         let name = String::from_utf8_lossy(heap, word.text)?;
-        self.threads
-            .push(Thread {
-                name,
-                code: Vec::new(heap),
-            })?;
+        self.threads.push(Thread {
+            name,
+            code: Vec::new(heap),
+        })?;
         Ok(())
     }
     // The line that names the threads.
     fn heading(&mut self, heap: Global, content: &[u8], start: Spot) -> Result<(), Fault>
-        ensures { λ r. ⌜ Answers r (λ _. page (now (self .exit))) (each begins (page (now (self .entry))) (pieces 124 (now (content .entry)))) ⌝ }
+        ensures { Answers result (λ _. page self.new) (each begins (page self.old) (pieces 124 content.now)) }
     {
         let mut rest = content;
         let mut spot = start;
@@ -179,7 +170,7 @@ impl Page {
 
     // What stands in a line before a comment.
     fn content(&mut self, heap: Global, bytes: &[u8], spot: Spot) -> Result<(), Fault>
-        ensures { λ r. ⌜ Answers r (λ _. page (now (self .exit))) (content (page (now (self .entry))) (now (bytes .entry))) ⌝ }
+        ensures { Answers result (λ _. page self.new) (content (page self.old) bytes.now) }
     {
         if Kind::Blank.all(bytes) {
             return Ok(());
@@ -192,7 +183,7 @@ impl Page {
     }
 
     fn line(&mut self, heap: Global, bytes: &[u8], spot: Spot) -> Result<(), Fault>
-        ensures { λ r. ⌜ Answers r (λ _. page (now (self .exit))) (line (page (now (self .entry))) (now (bytes .entry))) ⌝ }
+        ensures { Answers result (λ _. page self.new) (line (page self.old) bytes.now) }
     {
         let text = without_cr(bytes);
         let plain = Kind::Plain.run(text);
@@ -207,7 +198,7 @@ impl Page {
 
     // Every line of a text; answers where the text ends.
     pub fn lines(&mut self, heap: Global, text: &[u8]) -> Result<Spot, Fault>
-        ensures { λ r. ⌜ Answers r (λ _. page (now (self .exit))) (each line (page (now (self .entry))) (pieces 10 (now (text .entry)))) ⌝ }
+        ensures { Answers result (λ _. page self.new) (each line (page self.old) (pieces 10 text.now)) }
     {
         let mut rest = text;
         let mut spot = Spot { line: 1, column: 1 };

@@ -1,11 +1,10 @@
 // How the places of a program are named.
-ghost use Prim.Native.Nat.{_≤_};
-ghost use Rattle·std.specs.Of.Vec.{vec-len};
+ghost use Rattle.std.specs.Prelude.{◌≤◌, vec_len};
 
 // By numerals; or by words, numbered in the order in which they came. No words and no numerals where no place has come.
 #[derive(Drop)]
 pub struct Places {
     pub numerals: bool,
     pub words: Vec<String>,
-    ghost few: { vec-len words ≤ 8 },
+    ghost few: { vec_len words ≤ 8 },
 }

@@ -1,64 +1,55 @@
 // A program with its names as text, lined up in columns. Threads may be of any length; what is within the limits is read
 // back as it was.
-ghost use mathlib.Core.List.{_++_, map};
-ghost use mathlib.Core.Path.{_≡_};
-ghost use Prim.Native.Nat.{_+_, _-_, _*_, _<_, _≤_, max};
-ghost use lib.ListN.{length, getD, replicate};
-ghost use Rattle·std.specs.Of.String.{string-bytes, string-len};
-ghost use Rattle·std.specs.Of.Vec.{vec-items, vec-len};
-ghost use Rattle·std.specs.Vec.{made};
-ghost use Rattle·program.specs.Instructions.{instruction};
-ghost use Rattle·text·specs.Meaning.{words, column, listing};
-ghost use Rattle·text·specs.Shows.{show-place, show-i, show-cell, width, show-line, height, show-lines, shows};
-ghost use Rattle·text·specs.Bytes.{empty};
-ghost use Rattle·text·specs.Fine.{Fine};
-ghost use Rattle·text·specs.Grammar.{Column, reads};
-ghost use mathlib.Core.Option.{some};
-ghost use Rattle·text·specs.Parts.{gap, behind, part};
-ghost use mathlib.Core.Bool.{_&&_};
-use crate::source::Source;
-use crate::source::Thread;
-use program::instructions::Instruction;
-use program::instructions::Place;
-use std::alloc::AllocError;
-use std::alloc::Global;
+ghost use Rattle.std.specs.Prelude.{◌≡◌, ◌+◌, ◌-◌, ◌*◌, ◌<◌, ◌≤◌, max, ◌&&◌, ◌++◌, map, length, replicate, IfOk, vec_len, string_bytes, string_len, OnOk};
+ghost use Rattle.program.specs.Instructions.{instruction};
+ghost use Rattle.text.specs.Meaning.{words, column, listing};
+ghost use Rattle.text.specs.Shows.{show-place, show-i, show-cell, width, show-line, height, show-lines, shows};
+ghost use Rattle.text.specs.Bytes.{empty};
+ghost use Rattle.text.specs.Fine.{Fine};
+ghost use Rattle.text.specs.Grammar.{Column, reads};
+ghost use Rattle.std.proofs.Math.Option.{some};
+ghost use Rattle.text.specs.Parts.{gap, behind, part};
+
+use crate::source::{Source, Thread};
+use program::instructions::{Instruction, Place};
+use std::alloc::{AllocError, Global};
 
 // A place by its name, or by its numeral where it has none.
 pub fn place(heap: Global, names: &[String], x: Place) -> Result<String, AllocError>
-    ensures { λ r. ⌜ made r (λ s. string-bytes s ≡ show-place (words (now (names .entry))) (x .0)) ⌝ }
+    ensures { IfOk result (λ s. string_bytes s ≡ show-place (words names.now) x.0) }
 {
     let x = x.0;
     let k = x as usize;
     if k < names.len() {
         return String::from_str(heap, names[k].as_str());
     }
-    format!(heap, "{x}")
+    format!(in heap; "{x}")
 }
 
 // An instruction as it stands in a cell.
 pub fn cell_text(heap: Global, names: &[String], i: Instruction) -> Result<String, AllocError>
-    ensures { λ r. ⌜ made r (λ s. string-bytes s ≡ show-i (words (now (names .entry))) (instruction i)) ⌝ }
+    ensures { IfOk result (λ s. string_bytes s ≡ show-i (words names.now) (instruction i)) }
 {
     match i {
         Instruction::Set(r, n) => {
             let r = r.0;
-            format!(heap, "r{r} = {n}")
+            format!(in heap; "r{r} = {n}")
         }
         Instruction::Add(r, a, b) => {
             let r = r.0;
             let a = a.0;
             let b = b.0;
-            format!(heap, "r{r} = r{a} + r{b}")
+            format!(in heap; "r{r} = r{a} + r{b}")
         }
         Instruction::Load(r, x) => {
             let r = r.0;
             let x = place(heap, names, x)?;
-            format!(heap, "r{r} = [{x}]")
+            format!(in heap; "r{r} = [{x}]")
         }
         Instruction::Store(x, r) => {
             let x = place(heap, names, x)?;
             let r = r.0;
-            format!(heap, "[{x}] = r{r}")
+            format!(in heap; "[{x}] = r{r}")
         }
         Instruction::Fence => String::from_str(heap, "fence"),
     }
@@ -66,7 +57,7 @@ pub fn cell_text(heap: Global, names: &[String], i: Instruction) -> Result<Strin
 
 // The cell of line `j` in a thread's column: its name in line 0, else an instruction or nothing.
 fn cell(heap: Global, names: &[String], thread: &Thread, j: usize) -> Result<String, AllocError>
-    ensures { λ r. ⌜ made r (λ s. string-bytes s ≡ show-cell (words (now (names .entry))) (column (now (thread .entry))) j) ⌝ }
+    ensures { IfOk result (λ s. string_bytes s ≡ show-cell (words names.now) (column thread.now) j) }
 {
     if j == 0 {
         return String::from_str(heap, thread.name.as_str());
@@ -79,7 +70,7 @@ fn cell(heap: Global, names: &[String], thread: &Thread, j: usize) -> Result<Str
 
 // The width of a thread's column.
 fn width_of(heap: Global, names: &[String], thread: &Thread) -> Result<usize, AllocError>
-    ensures { λ r. ⌜ made r (λ w. w ≡ width (words (now (names .entry))) (column (now (thread .entry)))) ⌝ }
+    ensures { IfOk result (λ w. w ≡ width (words names.now) (column thread.now)) }
 {
     let mut most = thread.name.len();
     for i in thread.code.as_slice() {
@@ -91,7 +82,7 @@ fn width_of(heap: Global, names: &[String], thread: &Thread) -> Result<usize, Al
 
 // The blank before column `k`.
 fn put_gap(out: &mut String, k: usize, nothing: bool) -> Result<(), AllocError>
-    ensures { λ r. ⌜ made r (λ _. string-bytes (now (out .exit)) ≡ string-bytes (now (out .entry)) ++ gap k nothing) ⌝ }
+    ensures { OnOk result (string_bytes out.new ≡ string_bytes out.old ++ gap k nothing) }
 {
     if k == 0 {
         return Ok(());
@@ -104,7 +95,7 @@ fn put_gap(out: &mut String, k: usize, nothing: bool) -> Result<(), AllocError>
 
 // What stands behind a cell.
 fn put_behind(out: &mut String, last: bool, blanks: usize) -> Result<(), AllocError>
-    ensures { λ r. ⌜ made r (λ _. string-bytes (now (out .exit)) ≡ string-bytes (now (out .entry)) ++ behind last blanks) ⌝ }
+    ensures { OnOk result (string_bytes out.new ≡ string_bytes out.old ++ behind last blanks) }
 {
     if last {
         return Ok(());
@@ -126,7 +117,7 @@ fn put_part(
     k: usize,
     last: bool,
 ) -> Result<(), AllocError>
-    ensures { λ r. ⌜ made r (λ _. string-bytes (now (out .exit)) ≡ string-bytes (now (out .entry)) ++ part (words (now (names .entry))) j k last (column (now (thread .entry)))) ⌝ }
+    ensures { OnOk result (string_bytes out.new ≡ string_bytes out.old ++ part (words names.now) j k last (column thread.now)) }
 {
     let text = cell(heap, names, thread, j)?;
     let width = width_of(heap, names, thread)?;
@@ -138,7 +129,7 @@ fn put_part(
 
 // Whether nothing follows in a line: an empty cell in the last column.
 fn ends(last: bool, text: &[u8]) -> bool
-    ensures { λ r. ⌜ r ≡ (last && empty (now (text .entry))) ⌝ }
+    ensures { result ≡ (last && empty text.now) }
 {
     last && text.is_empty()
 }
@@ -151,7 +142,7 @@ fn put_line(
     threads: &[Thread],
     j: usize,
 ) -> Result<(), AllocError>
-    ensures { λ r. ⌜ made r (λ _. string-bytes (now (out .exit)) ≡ string-bytes (now (out .entry)) ++ show-line (words (now (names .entry))) j (map column (now (threads .entry)))) ⌝ }
+    ensures { OnOk result (string_bytes out.new ≡ string_bytes out.old ++ show-line (words names.now) j (map column threads.now)) }
 {
     for k in 0..threads.len() {
         put_part(heap, out, names, &threads[k], j, k, k + 1 == threads.len())?;
@@ -161,7 +152,7 @@ fn put_line(
 
 // How many instructions the longest thread has.
 fn height_of(threads: &[Thread]) -> usize
-    ensures { λ r. ⌜ r ≡ height (map (λ (t : Column). t .code) (map column (now (threads .entry)))) ⌝ }
+    ensures { result ≡ height (map (λ (t : Column). t.code) (map column threads.now)) }
 {
     let mut most = 0;
     for thread in threads {
@@ -172,7 +163,7 @@ fn height_of(threads: &[Thread]) -> usize
 
 // The lines below the first.
 fn put_rows(heap: Global, out: &mut String, source: &Source, rows: usize) -> Result<(), AllocError>
-    ensures { λ r. ⌜ made r (λ _. string-bytes (now (out .exit)) ≡ string-bytes (now (out .entry)) ++ show-lines (listing (now (source .entry))) 1 rows) ⌝ }
+    ensures { OnOk result (string_bytes out.new ≡ string_bytes out.old ++ show-lines (listing source.now) 1 rows) }
 {
     for j in 0..rows {
         put_line(
@@ -189,8 +180,8 @@ fn put_rows(heap: Global, out: &mut String, source: &Source, rows: usize) -> Res
 
 // The text of a program with its names.
 pub fn print(heap: Global, source: &Source) -> Result<String, AllocError>
-    ensures text { λ r. ⌜ made r (λ s. string-bytes s ≡ shows (listing (now (source .entry)))) ⌝ }
-    ensures back { λ r. ⌜ made r (λ s. Fine (listing (now (source .entry))) → reads (string-bytes s) ≡ some (listing (now (source .entry)))) ⌝ }
+    ensures text { IfOk result (λ s. string_bytes s ≡ shows (listing source.now)) }
+    ensures back { IfOk result (λ s. Fine (listing source.now) → reads (string_bytes s) ≡ some (listing source.now)) }
 {
     let mut out = String::new(heap);
     put_line(

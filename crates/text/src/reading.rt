@@ -1,11 +1,9 @@
 // A text read: the program with its names that it says, or why it is refused.
-ghost use Rattle·text·specs.Answers.{Answers, Reading};
-ghost use Rattle·text·specs.Grammar.{reads};
-ghost use Rattle·text·specs.Meaning.{listing};
-use crate::faults::Expected;
-use crate::faults::Fault;
-use crate::faults::Found;
-use crate::faults::Spot;
+ghost use Rattle.text.specs.Answers.{Answers, Reading};
+ghost use Rattle.text.specs.Grammar.{reads};
+ghost use Rattle.text.specs.Meaning.{listing};
+
+use crate::faults::{Expected, Fault, Found, Spot};
 use crate::pages::Page;
 use crate::places::Places;
 use crate::source::Source;
@@ -13,7 +11,7 @@ use std::alloc::Global;
 
 // What a text says.
 pub fn parse(heap: Global, text: &str) -> Result<Source, Fault>
-    ensures { λ r. ⌜ Answers r listing (reads (now (text .entry))) ⌝ }
+    ensures { Answers result listing (reads text.now) }
 {
     let mut page = Page {
         threads: Vec::new(heap),
@@ -57,7 +55,7 @@ fn spot_of(bytes: &[u8], at: usize) -> Spot {
 
 // What bytes say that may be no text at all.
 pub fn read(heap: Global, bytes: &[u8]) -> Result<Source, Fault>
-    ensures { λ r. ⌜ Reading (now (bytes .entry)) r ⌝ }
+    ensures { Reading bytes.now result }
 {
     match std::str::from_utf8(bytes) {
         Ok(text) => parse(heap, text),

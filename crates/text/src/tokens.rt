@@ -1,16 +1,12 @@
 // A cell cut into its tokens: words as long as they go, and signs of one byte.
-ghost use mathlib.Core.Path.{_≡_};
-ghost use mathlib.Core.List.{map};
-ghost use Rattle·std.specs.Of.Vec.{vec-items};
-ghost use Rattle·text·specs.Answers.{Answers};
-ghost use Rattle·text·specs.Bytes.{tokens};
-ghost use Rattle·text·specs.Kinds.{First-token};
-ghost use Rattle·text·specs.Meaning.{token};
+ghost use Rattle.std.specs.Prelude.{◌≡◌, map};
+ghost use Rattle.text.specs.Answers.{Answers};
+ghost use Rattle.text.specs.Bytes.{tokens};
+ghost use Rattle.text.specs.Kinds.{First-token};
+ghost use Rattle.text.specs.Meaning.{token};
+
 use crate::bytes::Kind;
-use crate::faults::Expected;
-use crate::faults::Fault;
-use crate::faults::FaultFromRefused;
-use crate::faults::Spot;
+use crate::faults::{Expected, Fault, Spot};
 use std::alloc::Global;
 
 #[derive(Clone, Copy)]
@@ -21,7 +17,7 @@ pub struct Token<'a> {
 
 // How many bytes the first word or sign has; none where neither begins.
 fn token_len(bytes: &[u8]) -> usize
-    ensures { λ r. ⌜ First-token (now (bytes .entry)) r ⌝ }
+    ensures { First-token bytes.now result }
 {
     let letters = Kind::Letter.run(bytes);
     if letters > 0 {
@@ -34,7 +30,7 @@ fn token_len(bytes: &[u8]) -> usize
 }
 
 pub fn tokens<'a>(heap: Global, cell: &'a [u8], spot: Spot) -> Result<Vec<Token<'a>>, Fault>
-    ensures { λ r. ⌜ Answers r (λ v. map token (vec-items v)) (tokens (now (cell .entry))) ⌝ }
+    ensures { Answers result (λ v. map token v.items) (tokens cell.now) }
 {
     let mut found = Vec::new(heap);
     let mut i = 0;

@@ -1,8 +1,6 @@
 // Known programs, as words in text. The comments write places 0, 1 and 2 as x, y and z, and leave out the lines that put
 // numbers into registers. What each needs is said where they are tried.
-use std::alloc::AllocError;
-use std::alloc::Global;
-use std::error::AnyError;
+use std::alloc::{AllocError, Global};
 
 // x = 1; r1 = y | y = 1; r1 = x. Both may read 0, but not at once.
 pub const STORE_BUFFERING: &str = "2 3 0 0 1 0 3 0 0 0 2 1 1 0 3 0 0 1 0 3 1 0 0 2 1 0 0";
@@ -97,7 +95,7 @@ pub fn many_stores(heap: Global) -> Result<Vec<u32>, AllocError> {
 }
 
 // The words in a text.
-pub fn words_in(heap: Global, text: &str) -> Result<Vec<u32>, AnyError> {
+pub fn words_in(heap: Global, text: &str) -> anyhow::Result<Vec<u32>> {
     let mut words = Vec::new(heap);
     for word in text.split_whitespace() {
         words.push(word.parse::<u32>()?)?;

@@ -1,5 +1,5 @@
-use Rattle·hitting·proofs.Theorems.{theorems}
-use Rattle·hitting·proofs.theorems_hold.Needs as need
+use Rattle.hitting.proofs.Theorems.{theorems}
+use Rattle.hitting.proofs.theorems_hold.Goals as goal
 
-pub returns : need.returns
+pub returns : goal.returns
 returns c = theorems

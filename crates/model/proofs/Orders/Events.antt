@@ -2,10 +2,10 @@
 -- two, or a list that one event has been taken out of.
 -- The two types are indexed by the list, so a match on one needs a variable there. Each is turned once into a type that
 -- computes on the list, and all else goes by that.
-use mathlib.Core.Path.{_≡_, refl, ap, subst}
-use mathlib.Core.Logic.{_⊎_, inl, inr}
-use mathlib.Core.List.{List, [], _∷_, _++_}
-use Rattle·model·specs.Orders.{Ev, In, first, more, Before, here, later}
+use mathlib.Core.Path.{◌≡◌, refl, ap, subst}
+use mathlib.Core.Logic.{◌⊎◌, inl, inr}
+use mathlib.Core.List.{List, [], ◌∷◌, ◌++◌}
+use Rattle.model.specs.Orders.{Ev, In, first, more, Before, here, later}
 
 -- a stands in l, by cases of l
 abbrev pub Within : Ev → List Ev → Type 0
@@ -47,26 +47,26 @@ before-both [] j k = absurd (ahead j)
 before-both {a} {b} (e ∷ es) j k =
     elim (ahead j) [
       | inl (p, i) ↦ elim (ahead k) [
-        | inl (q, i′) ↦ (a, here-same p i′)
-        | inr k′ ↦ (a, here-same p (before-second k′))
+        | inl (q, i') ↦ (a, here-same p i')
+        | inr k' ↦ (a, here-same p (before-second k'))
       ]
-      | inr j′ ↦ elim (ahead k) [
-        | inl (q, i′) ↦ (b, here-same q (before-second j′))
-        | inr k′ ↦ let (c, z) = before-both es j′ k′ in (c, later z)
+      | inr j' ↦ elim (ahead k) [
+        | inl (q, i') ↦ (b, here-same q (before-second j'))
+        | inr k' ↦ let (c, z) = before-both es j' k' in (c, later z)
       ]
     ]
 
 -- a join of two lists
-pub in-left : {a : Ev} {xs : List Ev} (ys : List Ev) → In a xs → In a (xs ++ ys)
-in-left ys first = first
-in-left ys (more i) = more (in-left ys i)
+pub in_left : {a : Ev} {xs : List Ev} (ys : List Ev) → In a xs → In a (xs ++ ys)
+in_left ys first = first
+in_left ys (more i) = more (in_left ys i)
 
-pub in-right : {a : Ev} (xs : List Ev) {ys : List Ev} → In a ys → In a (xs ++ ys)
-in-right [] i = i
-in-right (x ∷ xs) i = more (in-right xs i)
+pub in_right : {a : Ev} (xs : List Ev) {ys : List Ev} → In a ys → In a (xs ++ ys)
+in_right [] i = i
+in_right (x ∷ xs) i = more (in_right xs i)
 
 pub before-left : {a b : Ev} {xs : List Ev} (ys : List Ev) → Before a b xs → Before a b (xs ++ ys)
-before-left ys (here i) = here (in-left ys i)
+before-left ys (here i) = here (in_left ys i)
 before-left ys (later k) = later (before-left ys k)
 
 pub in-or : {a : Ev} (xs ys : List Ev) → In a (xs ++ ys) → In a xs ⊎ In a ys
@@ -76,7 +76,7 @@ in-or (x ∷ xs) ys i =
 
 -- what stands on either side of an event
 pub before-this : {a : Ev} {xs : List Ev} (e : Ev) (ys : List Ev) → In a xs → Before a e (xs ++ (e ∷ ys))
-before-this e ys (first {es = es}) = here (in-right es first)
+before-this e ys (first {es = es}) = here (in_right es first)
 before-this e ys (more i) = later (before-this e ys i)
 
 pub this-before : {a : Ev} (e : Ev) (xs : List Ev) {ys : List Ev} → In a ys → Before e a (xs ++ (e ∷ ys))
@@ -84,26 +84,26 @@ this-before e [] i = here i
 this-before e (x ∷ xs) i = later (this-before e xs i)
 
 -- one event, e, taken out of a list: what stands in the rest stood in the list, in the same order
-pub kept-in : {a : Ev} (e : Ev) (xs ys : List Ev) → In a (xs ++ ys) → In a (xs ++ (e ∷ ys))
-kept-in e [] ys i = more i
-kept-in e (x ∷ xs) ys i = elim (within i) [ inl q ↦ in-same q | inr j ↦ more (kept-in e xs ys j) ]
+pub kept_in : {a : Ev} (e : Ev) (xs ys : List Ev) → In a (xs ++ ys) → In a (xs ++ (e ∷ ys))
+kept_in e [] ys i = more i
+kept_in e (x ∷ xs) ys i = elim (within i) [ inl q ↦ in-same q | inr j ↦ more (kept_in e xs ys j) ]
 
 pub kept-before : {a b : Ev} (e : Ev) (xs ys : List Ev) → Before a b (xs ++ ys) → Before a b (xs ++ (e ∷ ys))
 kept-before e [] ys k = later k
 kept-before e (x ∷ xs) ys k =
-    elim (ahead k) [ inl (q, i) ↦ here-same q (kept-in e xs ys i) | inr j ↦ later (kept-before e xs ys j) ]
+    elim (ahead k) [ inl (q, i) ↦ here-same q (kept_in e xs ys i) | inr j ↦ later (kept-before e xs ys j) ]
 
 -- what stood in the list was that event or stands in the rest
-pub left-in : {a : Ev} (e : Ev) (xs ys : List Ev) → In a (xs ++ (e ∷ ys)) → (a ≡ e) ⊎ In a (xs ++ ys)
-left-in e [] ys i = within i
-left-in e (x ∷ xs) ys i =
-    elim (within i) [ inl q ↦ inr (in-same q) | inr j ↦ elim (left-in e xs ys j) [ inl q ↦ inl q | inr k ↦ inr (more k) ] ]
+pub left_in : {a : Ev} (e : Ev) (xs ys : List Ev) → In a (xs ++ (e ∷ ys)) → (a ≡ e) ⊎ In a (xs ++ ys)
+left_in e [] ys i = within i
+left_in e (x ∷ xs) ys i =
+    elim (within i) [ inl q ↦ inr (in-same q) | inr j ↦ elim (left_in e xs ys j) [ inl q ↦ inl q | inr k ↦ inr (more k) ] ]
 
 pub left-before : {a b : Ev} (e : Ev) (xs ys : List Ev) → Before a b (xs ++ (e ∷ ys)) → ((In a xs × (b ≡ e)) ⊎ ((a ≡ e) × In b ys)) ⊎ Before a b (xs ++ ys)
 left-before e [] ys k = elim (ahead k) [ inl h ↦ inl (inr h) | inr j ↦ inr j ]
 left-before e (x ∷ xs) ys k =
     elim (ahead k) [
-      | inl (q, i) ↦ elim (left-in e xs ys i) [ inl p ↦ inl (inl (in-same q, p)) | inr j ↦ inr (here-same q j) ]
+      | inl (q, i) ↦ elim (left_in e xs ys i) [ inl p ↦ inl (inl (in-same q, p)) | inr j ↦ inr (here-same q j) ]
       | inr j ↦ elim (left-before e xs ys j) [
         | inl (inl (i, p)) ↦ inl (inl (more i, p))
         | inl (inr h) ↦ inl (inr h)
@@ -112,6 +112,6 @@ left-before e (x ∷ xs) ys k =
     ]
 
 -- an event of a list, with what stands before it and behind it
-pub in-split : {a : Ev} {l : List Ev} → In a l → (xs : List Ev) × (ys : List Ev) × (l ≡ xs ++ (a ∷ ys))
-in-split {a} (first {es = es}) = ([], es, refl)
-in-split (more {e = e} i) = let (xs, ys, q) = in-split i in (e ∷ xs, ys, ap {B = List Ev} (λ z. e ∷ z) q)
+pub in_split : {a : Ev} {l : List Ev} → In a l → (xs : List Ev) × (ys : List Ev) × (l ≡ xs ++ (a ∷ ys))
+in_split {a} (first {es = es}) = ([], es, refl)
+in_split (more {e = e} i) = let (xs, ys, q) = in_split i in (e ∷ xs, ys, ap {B = List Ev} (λ z. e ∷ z) q)

@@ -1,27 +1,27 @@
 -- An order is events taken one after the other, and events so taken are an order.
 -- An order is stated here of a list of events for each thread, and of what memory holds before it, so that the rest
 -- of an order is an order again once its first event is taken out and done (less); and the other way round (more).
-use mathlib.Core.Path.{_≡_, refl, sym, _∙_, ap, subst}
-use mathlib.Core.Logic.{_⊎_, inl, inr}
+use mathlib.Core.Path.{◌≡◌, refl, sym, ◌∙◌, ap, subst}
+use mathlib.Core.Logic.{◌⊎◌, inl, inr}
 use mathlib.Core.Bool.{false}
-use mathlib.Core.List.{List, [], _∷_, _++_}
+use mathlib.Core.List.{List, [], ◌∷◌, ◌++◌}
 use mathlib.Core.Option.{some}
 use Prim.Native.Nat.{ℕ}
 use native.Mathlib.Omega.{arith}
-use Rattle·model·specs.Code.{nth, Thread, Prog}
-use Rattle·model·specs.Machine.{at-mem}
-use Rattle·model·specs.Orders.{Ev, In, first, more, Before, here, later, Sees}
-use Rattle·model·proofs.Tools.{some-is, false-true}
-use Rattle·model·proofs.Orders.Events.{within, ahead, in-same, here-same, before-first, before-second, before-both, in-or, before-this, this-before, before-left, left-in, in-split}
-use Rattle·model·proofs.Orders.Going.{Cross, Took, Gives, after, Goes, upd, upd-here, upd-there, Well, took-this, took-in, took-before, took-or, took-before-or, took-well, took-apart}
-use Rattle·model·proofs.Orders.Reading.{newest-is, Has, has-less, has-more}
+use Rattle.model.specs.Code.{nth, Thread, Prog}
+use Rattle.model.specs.Machine.{at_mem}
+use Rattle.model.specs.Orders.{Ev, In, first, more, Before, here, later, Sees}
+use Rattle.model.proofs.Tools.{some_is, false-true}
+use Rattle.model.proofs.Orders.Events.{within, ahead, in-same, here-same, before-first, before-second, before-both, in-or, before-this, this-before, before-left, left_in, in_split}
+use Rattle.model.proofs.Orders.Going.{Cross, Took, Gives, after, Goes, upd, upd-here, upd-there, Well, took-this, took_in, took-before, took-or, took-before-or, took-well, took-apart}
+use Rattle.model.proofs.Orders.Reading.{newest-is, Has, has-less, has_more}
 
 pub record Ordered (p : Prog) (m : List ℕ) (A : ℕ → List Ev) (o : List Ev) : Type 0 where
   pub from : (e : Ev) → In e o → (n : ℕ) × In e (A n)
   pub each : (n : ℕ) (e : Ev) → In e (A n) → In e o
-  pub once : (a b : Ev) → Before a b o → (a .thread ≡ b .thread) × (a .index ≡ b .index) → ⊥
+  pub once : (a b : Ev) → Before a b o → (a.thread ≡ b.thread) × (a.index ≡ b.index) → ⊥
   pub kept : (n : ℕ) (t : Thread) (a b : Ev) → nth p n ≡ some t → Before a b (A n) → Before a b o ⊎ Cross t a b
-  pub has : (r : Ev) → In r o → r .write ≡ false → Has m o r
+  pub has : (r : Ev) → In r o → r.write ≡ false → Has m o r
 
 -- where nothing is to come the order is empty
 ordered-none : (p : Prog) (m : List ℕ) (A : ℕ → List Ev) → ((n : ℕ) → A n ≡ []) → Ordered p m A []
@@ -38,123 +38,123 @@ none-ordered p m A o n = go (A n) refl
   where
     go : (l : List Ev) → A n ≡ l → A n ≡ []
     go [] q = q
-    go (e ∷ l) q = absurd (within (o .each n e (subst (λ (z : List Ev). In e z) (sym q) first)))
+    go (e ∷ l) q = absurd (within (o.each n e (subst (λ (z : List Ev). In e z) (sym q) first)))
 
 -- an event e taken out of a thread's list: the writes that it may see in the order are those that it passes
 module _ (p : Prog) (m : List ℕ) (A : ℕ → List Ev) (e : Ev) (es : List Ev) (well : Well p m A) (B : ℕ → List Ev) (st : Took p A e B)
     (from : (x : Ev) → In x (e ∷ es) → (n : ℕ) × In x (A n)) (each : (n : ℕ) (x : Ev) → In x (A n) → In x (e ∷ es)) (fresh : In e es → ⊥) where
   -- what is passed stands in the thread's list, before e
-  older-before : {w : Ev} → In w (st .older) → Before w e (A (st .n))
-  older-before {w} i = subst (λ (z : List Ev). Before w e z) (sym (st .was)) (before-this e (st .newer) i)
+  older-before : {w : Ev} → In w st.older → Before w e (A st.n)
+  older-before {w} i = subst (λ (z : List Ev). Before w e z) (sym st.was) (before-this e st.newer i)
 
-  older-sees : {w : Ev} → In w (st .older) → w .place ≡ e .place → Sees (e ∷ es) w e
+  older-sees : {w : Ev} → In w st.older → w.place ≡ e.place → Sees (e ∷ es) w e
   older-sees {w} i q =
       let b = older-before i in
       let here-w = before-first b in
-      (st .over w i .0, q, inr (well .thread (st .n) w here-w ∙ sym (well .thread (st .n) e (before-second b)), well .sorted (st .n) w e b, each (st .n) w here-w))
+      ((st.over w i).0, q, inr (well.thread st.n w here-w ∙ sym (well.thread st.n e (before-second b)), well.sorted st.n w e b, each st.n w here-w))
 
-  sees-older : {w : Ev} → Sees (e ∷ es) w e → In w (st .older)
+  sees-older : {w : Ev} → Sees (e ∷ es) w e → In w st.older
   sees-older {w} (a, b, inl k) = elim (ahead k) [ inl (q, i) ↦ absurd (fresh i) | inr j ↦ absurd (fresh (before-second j)) ]
   sees-older {w} (a, b, inr (same, less, i)) =
       let (k, j) = from w i in
-      let q : k ≡ st .n = sym (well .thread k w j) ∙ (same ∙ well .thread (st .n) e (took-this p A e B st)) in
-      let h = subst (λ (z : List Ev). In w z) (st .was) (subst (λ (z : ℕ). In w (A z)) q j) in
-      elim (left-in e (st .older) (st .newer) h) [
-        | inl z ↦ let x = ap (λ (y : Ev). y .index) z in absurd (omega arith)
-        | inr z ↦ elim (in-or (st .older) (st .newer) z) [
+      let q : k ≡ st.n = sym (well.thread k w j) ∙ (same ∙ well.thread st.n e (took-this p A e B st)) in
+      let h = subst (λ (z : List Ev). In w z) st.was (subst (λ (z : ℕ). In w (A z)) q j) in
+      elim (left_in e st.older st.newer h) [
+        | inl z ↦ let x = ap (λ (y : Ev). y.index) z in absurd (omega arith)
+        | inr z ↦ elim (in-or st.older st.newer z) [
           | inl y ↦ y
-          | inr y ↦ let x = well .sorted (st .n) e w (subst (λ (u : List Ev). Before e w u) (sym (st .was)) (this-before e (st .older) y)) in absurd (omega arith)
+          | inr y ↦ let x = well.sorted st.n e w (subst (λ (u : List Ev). Before e w u) (sym st.was) (this-before e st.older y)) in absurd (omega arith)
         ]
       ]
 
   -- writes are kept in their order
-  module _ (kept : (a b : Ev) → Before a b (A (st .n)) → Before a b (e ∷ es) ⊎ Cross (st .t) a b) where
-    older-kept : {v w : Ev} → Before v w (st .older) → Before v w (e ∷ es)
-    older-kept {v} {w} k = elim (kept v w (subst (λ (z : List Ev). Before v w z) (sym (st .was)) (before-left (e ∷ st .newer) k))) [
+  module _ (kept : (a b : Ev) → Before a b (A st.n) → Before a b (e ∷ es) ⊎ Cross st.t a b) where
+    older-kept : {v w : Ev} → Before v w st.older → Before v w (e ∷ es)
+    older-kept {v} {w} k = elim (kept v w (subst (λ (z : List Ev). Before v w z) (sym st.was) (before-left (e ∷ st.newer) k))) [
       | inl b ↦ b
-      | inr c ↦ absurd (false-true (sym (c .1) ∙ st .over w (before-second k) .0))
+      | inr c ↦ absurd (false-true (sym c.1 ∙ (st.over w (before-second k)).0))
     ]
 
     -- so e has the newest of those that it passes exactly if it has the newest of those that it may see
-    gives-has : ((c : Ev) → Before c c (e ∷ es) → ⊥) → Gives m (st .older) e → Has m (e ∷ es) e
-    gives-has once g = elim (newest-is (st .older) (e .place) (at-mem m (e .place))) [
+    gives-has : ((c : Ev) → Before c c (e ∷ es) → ⊥) → Gives m st.older e → Has m (e ∷ es) e
+    gives-has once g = elim (newest-is st.older e.place (at_mem m e.place)) [
       | inl (w, h, q) ↦ inl (
         w,
-        older-sees (h .one) (h .to),
+        older-sees h.one h.to,
         sym (g ∙ q),
-        λ v s b. elim (h .last v (sees-older s) (s .1)) [
+        λ v s b. elim (h.last v (sees-older s) s.1) [
           | inl z ↦ once w (subst (λ (y : Ev). Before w y (e ∷ es)) z b)
           | inr k ↦ let (c, x) = before-both (e ∷ es) b (older-kept k) in once c x
         ],
       )
-      | inr (h, q) ↦ inr (g ∙ q, λ w s. h w (sees-older s) (s .1))
+      | inr (h, q) ↦ inr (g ∙ q, λ w s. h w (sees-older s) s.1)
     ]
 
-    has-gives : Has m (e ∷ es) e → Gives m (st .older) e
-    has-gives (inl (w, s, q, new)) = elim (newest-is (st .older) (e .place) (at-mem m (e .place))) [
-      | inl (u, h, r) ↦ elim (h .last w (sees-older s) (s .1)) [
-        | inl z ↦ sym q ∙ (ap (λ (y : Ev). y .val) z ∙ sym r)
-        | inr k ↦ absurd (new u (older-sees (h .one) (h .to)) (older-kept k))
+    has-gives : Has m (e ∷ es) e → Gives m st.older e
+    has-gives (inl (w, s, q, new)) = elim (newest-is st.older e.place (at_mem m e.place)) [
+      | inl (u, h, r) ↦ elim (h.last w (sees-older s) s.1) [
+        | inl z ↦ sym q ∙ (ap (λ (y : Ev). y.val) z ∙ sym r)
+        | inr k ↦ absurd (new u (older-sees h.one h.to) (older-kept k))
       ]
-      | inr (h, r) ↦ absurd (h w (sees-older s) (s .1))
+      | inr (h, r) ↦ absurd (h w (sees-older s) s.1)
     ]
-    has-gives (inr (q, no-w)) = elim (newest-is (st .older) (e .place) (at-mem m (e .place))) [
-      | inl (u, h, r) ↦ absurd (no-w u (older-sees (h .one) (h .to)))
+    has-gives (inr (q, no-w)) = elim (newest-is st.older e.place (at_mem m e.place)) [
+      | inl (u, h, r) ↦ absurd (no-w u (older-sees h.one h.to))
       | inr (h, r) ↦ q ∙ sym r
     ]
 
 -- an event taken, and then an order of the rest
-module _ (p : Prog) (m : List ℕ) (A : ℕ → List Ev) (e : Ev) (es : List Ev) (well : Well p m A) (B : ℕ → List Ev) (st : Took p A e B) (gives : e .write ≡ false → Gives m (st .older) e) (o : Ordered p (after m e) B es) where
-  apart : {x : Ev} → In x es → e .thread ≡ x .thread → e .index ≡ x .index → ⊥
-  apart i = let (k, j) = o .from _ i in took-apart p A e B st m well k j
+module _ (p : Prog) (m : List ℕ) (A : ℕ → List Ev) (e : Ev) (es : List Ev) (well : Well p m A) (B : ℕ → List Ev) (st : Took p A e B) (gives : e.write ≡ false → Gives m st.older e) (o : Ordered p (after m e) B es) where
+  apart : {x : Ev} → In x es → e.thread ≡ x.thread → e.index ≡ x.index → ⊥
+  apart i = let (k, j) = o.from _ i in took-apart p A e B st m well k j
 
   fresh : In e es → ⊥
   fresh i = apart i refl refl
 
-  from-more : (x : Ev) → In x (e ∷ es) → (n : ℕ) × In x (A n)
-  from-more x i = elim (within i) [
-    | inl q ↦ (st .n, subst (λ (z : Ev). In z (A (st .n))) (sym q) (took-this p A e B st))
-    | inr j ↦ let (k, h) = o .from x j in (k, took-in p A e B st k h)
+  from_more : (x : Ev) → In x (e ∷ es) → (n : ℕ) × In x (A n)
+  from_more x i = elim (within i) [
+    | inl q ↦ (st.n, subst (λ (z : Ev). In z (A st.n)) (sym q) (took-this p A e B st))
+    | inr j ↦ let (k, h) = o.from x j in (k, took_in p A e B st k h)
   ]
 
-  each-more : (k : ℕ) (x : Ev) → In x (A k) → In x (e ∷ es)
-  each-more k x i = elim (took-or p A e B st k i) [ inl q ↦ in-same q | inr j ↦ more (o .each k x j) ]
+  each_more : (k : ℕ) (x : Ev) → In x (A k) → In x (e ∷ es)
+  each_more k x i = elim (took-or p A e B st k i) [ inl q ↦ in-same q | inr j ↦ more (o.each k x j) ]
 
-  once-more : (a b : Ev) → Before a b (e ∷ es) → (a .thread ≡ b .thread) × (a .index ≡ b .index) → ⊥
-  once-more a b k s = elim (ahead k) [
-    | inl (q, i) ↦ apart i (sym (ap (λ (z : Ev). z .thread) q) ∙ s .0) (sym (ap (λ (z : Ev). z .index) q) ∙ s .1)
-    | inr j ↦ o .once a b j s
+  once_more : (a b : Ev) → Before a b (e ∷ es) → (a.thread ≡ b.thread) × (a.index ≡ b.index) → ⊥
+  once_more a b k s = elim (ahead k) [
+    | inl (q, i) ↦ apart i (sym (ap (λ (z : Ev). z.thread) q) ∙ s.0) (sym (ap (λ (z : Ev). z.index) q) ∙ s.1)
+    | inr j ↦ o.once a b j s
   ]
 
-  kept-more : (k : ℕ) (t : Thread) (a b : Ev) → nth p k ≡ some t → Before a b (A k) → Before a b (e ∷ es) ⊎ Cross t a b
-  kept-more k t a b c i = elim (took-before-or p A e B st k i) [
-    | inl (inl (q, j, z)) ↦ inr (subst (λ (y : Ev). Cross t a y) (sym z) (subst (λ (y : Thread). Cross y a e) (some-is (sym (st .code) ∙ (ap (nth p) q ∙ c))) (st .over a j)))
-    | inl (inr (z, j)) ↦ inl (here-same z (o .each k b j))
-    | inr j ↦ elim (o .kept k t a b c j) [ inl x ↦ inl (later x) | inr x ↦ inr x ]
+  kept_more : (k : ℕ) (t : Thread) (a b : Ev) → nth p k ≡ some t → Before a b (A k) → Before a b (e ∷ es) ⊎ Cross t a b
+  kept_more k t a b c i = elim (took-before-or p A e B st k i) [
+    | inl (inl (q, j, z)) ↦ inr (subst (λ (y : Ev). Cross t a y) (sym z) (subst (λ (y : Thread). Cross y a e) (some_is (sym st.code ∙ (ap (nth p) q ∙ c))) (st.over a j)))
+    | inl (inr (z, j)) ↦ inl (here-same z (o.each k b j))
+    | inr j ↦ elim (o.kept k t a b c j) [ inl x ↦ inl (later x) | inr x ↦ inr x ]
   ]
 
   ordered-more : Ordered p m A (e ∷ es)
   ordered-more = record {
-    from = from-more;
-    each = each-more;
-    once = once-more;
-    kept = kept-more;
+    from = from_more;
+    each = each_more;
+    once = once_more;
+    kept = kept_more;
     has = λ r i w. elim (within i) [
-      | inl q ↦ subst (λ (z : Ev). Has m (e ∷ es) z) (sym q) (gives-has p m A e es well B st from-more each-more fresh (λ a b. kept-more (st .n) (st .t) a b (st .code)) (λ c x. once-more c c x (refl, refl)) (gives (sym (ap (λ (z : Ev). z .write) q) ∙ w)))
-      | inr j ↦ has-more m e es r j (well .place (st .n) e (took-this p A e B st)) fresh (o .has r j w)
+      | inl q ↦ subst (λ (z : Ev). Has m (e ∷ es) z) (sym q) (gives-has p m A e es well B st from_more each_more fresh (λ a b. kept_more st.n st.t a b st.code) (λ c x. once_more c c x (refl, refl)) (gives (sym (ap (λ (z : Ev). z.write) q) ∙ w)))
+      | inr j ↦ has_more m e es r j (well.place st.n e (took-this p A e B st)) fresh (o.has r j w)
     ];
   }
 
 -- the first event of an order is taken, and the rest is an order
 module _ (p : Prog) (m : List ℕ) (A : ℕ → List Ev) (e : Ev) (es : List Ev) (well : Well p m A) (o : Ordered p m A (e ∷ es)) where
   fresh-of : In e es → ⊥
-  fresh-of i = o .once e e (here i) (refl, refl)
+  fresh-of i = o.once e e (here i) (refl, refl)
 
   taken : (B : ℕ → List Ev) × Took p A e B
   taken =
-      let (n, i) = o .from e first in
-      let (t, c) = well .has n e i in
-      let (xs, ys, q) = in-split i in (
+      let (n, i) = o.from e first in
+      let (t, c) = well.has n e i in
+      let (xs, ys, q) = in_split i in (
         upd A n (xs ++ ys),
         record {
           n = n;
@@ -165,8 +165,8 @@ module _ (p : Prog) (m : List ℕ) (A : ℕ → List Ev) (e : Ev) (es : List Ev)
           was = q;
           is = upd-here A n (xs ++ ys);
           others = upd-there A n (xs ++ ys);
-          over = λ a j. elim (o .kept n t a e c (subst (λ (z : List Ev). Before a e z) (sym q) (before-this e ys j))) [
-            | inl k ↦ elim (ahead k) [ inl (z, h) ↦ absurd (fresh-of h) | inr k′ ↦ absurd (fresh-of (before-second k′)) ]
+          over = λ a j. elim (o.kept n t a e c (subst (λ (z : List Ev). Before a e z) (sym q) (before-this e ys j))) [
+            | inl k ↦ elim (ahead k) [ inl (z, h) ↦ absurd (fresh-of h) | inr k' ↦ absurd (fresh-of (before-second k')) ]
             | inr x ↦ x
           ];
         },
@@ -174,22 +174,22 @@ module _ (p : Prog) (m : List ℕ) (A : ℕ → List Ev) (e : Ev) (es : List Ev)
 
   ordered-less : (B : ℕ → List Ev) (st : Took p A e B) → Ordered p (after m e) B es
   ordered-less B st = record {
-    from = λ x i. let (k, j) = o .from x (more i) in
+    from = λ x i. let (k, j) = o.from x (more i) in
         elim (took-or p A e B st k j) [ inl q ↦ absurd (fresh-of (subst (λ (z : Ev). In z es) q i)) | inr h ↦ (k, h) ];
-    each = λ k x i. elim (within (o .each k x (took-in p A e B st k i))) [ inl q ↦ absurd (gone k i q) | inr j ↦ j ];
-    once = λ a b k s. o .once a b (later k) s;
-    kept = λ n t a b c k. elim (o .kept n t a b c (took-before p A e B st n k)) [
+    each = λ k x i. elim (within (o.each k x (took_in p A e B st k i))) [ inl q ↦ absurd (gone k i q) | inr j ↦ j ];
+    once = λ a b k s. o.once a b (later k) s;
+    kept = λ n t a b c k. elim (o.kept n t a b c (took-before p A e B st n k)) [
       | inl j ↦ elim (ahead j) [ inl (q, h) ↦ absurd (gone n (before-first k) q) | inr h ↦ inl h ]
       | inr x ↦ inr x
     ];
-    has = λ r i w. has-less m e es r i (well .place (st .n) e (took-this p A e B st)) (o .has r (more i) w);
+    has = λ r i w. has-less m e es r i (well.place st.n e (took-this p A e B st)) (o.has r (more i) w);
   }
     where
       gone : (k : ℕ) {x : Ev} → In x (B k) → x ≡ e → ⊥
-      gone k i q = took-apart p A e B st m well k i (sym (ap (λ (z : Ev). z .thread) q)) (sym (ap (λ (z : Ev). z .index) q))
+      gone k i q = took-apart p A e B st m well k i (sym (ap (λ (z : Ev). z.thread) q)) (sym (ap (λ (z : Ev). z.index) q))
 
-  gives-of : (B : ℕ → List Ev) (st : Took p A e B) → e .write ≡ false → Gives m (st .older) e
-  gives-of B st w = has-gives p m A e es well B st (o .from) (o .each) fresh-of (λ a b. o .kept (st .n) (st .t) a b (st .code)) (o .has e first w)
+  gives_of : (B : ℕ → List Ev) (st : Took p A e B) → e.write ≡ false → Gives m st.older e
+  gives_of B st w = has-gives p m A e es well B st o.from o.each fresh-of (λ a b. o.kept st.n st.t a b st.code) (o.has e first w)
 
 -- both, event by event
 pub goes-ordered : (p : Prog) (m : List ℕ) (A : ℕ → List Ev) (es : List Ev) → Well p m A → Goes p m A es → Ordered p m A es
@@ -201,4 +201,4 @@ pub ordered-goes : (p : Prog) (m : List ℕ) (A : ℕ → List Ev) (es : List Ev
 ordered-goes p m A [] well o = none-ordered p m A o
 ordered-goes p m A (e ∷ es) well o =
     let (B, st) = taken p m A e es well o in
-    (B, st, gives-of p m A e es well o B st, ordered-goes p (after m e) B es (took-well p A e B st m well) (ordered-less p m A e es well o B st))
+    (B, st, gives_of p m A e es well o B st, ordered-goes p (after m e) B es (took-well p A e B st m well) (ordered-less p m A e es well o B st))

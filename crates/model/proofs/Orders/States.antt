@@ -1,19 +1,19 @@
 -- All threads of a state: what is to come of each, as functions from the threads' numbers, and what it is after one of
 -- the threads has changed.
-use mathlib.Core.Path.{_≡_, refl, sym, _∙_, ap, subst, fun-ext}
+use mathlib.Core.Path.{◌≡◌, refl, sym, ◌∙◌, ap, subst, fun_ext}
 use mathlib.Core.Logic.{inl, inr}
 use mathlib.Core.Bool.{false}
-use mathlib.Core.List.{List, [], _++_}
+use mathlib.Core.List.{List, [], ◌++◌}
 use mathlib.Core.Option.{Option, some, none}
-use Prim.Native.Nat.{ℕ, _≤_}
+use Prim.Native.Nat.{ℕ, ◌≤◌}
 use native.Mathlib.Omega.{arith}
 use lib.ListN.{length}
-use Rattle·model·specs.Code.{opt, nth, put, I, Thread, Prog}
-use Rattle·model·specs.Machine.{At, does}
-use Rattle·model·specs.Orders.{Ev, Alone}
-use Rattle·model·proofs.Tools.{none-some, same-or, opt-is, nth-put-same, nth-put-other, length-put, nth-past, fresh}
-use Rattle·model·proofs.Orders.Going.{Goes, upd, upd-here, upd-there}
-use Rattle·model·proofs.Orders.Rows.{rest, row-after, is-load, Row, row-step, Quiet, quiet}
+use Rattle.model.specs.Code.{opt, nth, put, I, Thread, Prog}
+use Rattle.model.specs.Machine.{At, does}
+use Rattle.model.specs.Orders.{Ev, Alone}
+use Rattle.model.proofs.Tools.{none-some, same_or, opt-is, nth-put-same, nth-put-other, length-put, nth_past, fresh}
+use Rattle.model.proofs.Orders.Going.{Goes, upd, upd-here, upd-there}
+use Rattle.model.proofs.Orders.Rows.{rest, row-after, is-load, Row, row_step, Quiet, quiet}
 
 -- thread n's code and how it stands; nothing to do, and as every thread begins, where there is no thread n
 abbrev pub code : Prog → ℕ → Thread
@@ -27,42 +27,42 @@ abbrev pub future : Prog → List At → (ℕ → List ℕ) → ℕ → Alone
 future p as₁ vs n = rest n (code p n) (stand as₁ n) (vs n)
 
 abbrev pub events : Prog → List At → (ℕ → List Ev) → (ℕ → List ℕ) → ℕ → List Ev
-events p as₁ ws vs n = ws n ++ (future p as₁ vs n) .evs
+events p as₁ ws vs n = ws n ++ (future p as₁ vs n).evs
 
 -- the events ws are the threads' rows
 pub record Pending (p : Prog) (as₁ : List At) (ws : ℕ → List Ev) : Type 0 where
   pub many : length as₁ ≡ length p
   pub rows : (n : ℕ) → Row (code p n) (stand as₁ n) (ws n)
 
-pub code-is : (p : Prog) (n : ℕ) {t : Thread} → nth p n ≡ some t → code p n ≡ t
-code-is p n q = opt-is (nth p n) [] (λ t. t) q
+pub code_is : (p : Prog) (n : ℕ) {t : Thread} → nth p n ≡ some t → code p n ≡ t
+code_is p n q = opt-is (nth p n) [] (λ t. t) q
 
 pub stand-is : (as₁ : List At) (n : ℕ) {a : At} → nth as₁ n ≡ some a → stand as₁ n ≡ a
 stand-is as₁ n q = opt-is (nth as₁ n) fresh (λ a. a) q
 
-pub goes-same : (p : Prog) (m : List ℕ) (A B : ℕ → List Ev) (es : List Ev) → ((n : ℕ) → A n ≡ B n) → Goes p m A es → Goes p m B es
-goes-same p m A B es h g = subst (λ (C : ℕ → List Ev). Goes p m C es) (fun-ext h) g
+pub goes_same : (p : Prog) (m : List ℕ) (A B : ℕ → List Ev) (es : List Ev) → ((n : ℕ) → A n ≡ B n) → Goes p m A es → Goes p m B es
+goes_same p m A B es h g = subst (λ (C : ℕ → List Ev). Goes p m C es) (fun_ext h) g
 
 -- a thread that has something to do is there
-pub code-here : (p : Prog) (n k : ℕ) {i : I} → nth (code p n) k ≡ some i → nth p n ≡ some (code p n)
-code-here p n k {i} q = go (nth p n) refl
+pub code_here : (p : Prog) (n k : ℕ) {i : I} → nth (code p n) k ≡ some i → nth p n ≡ some (code p n)
+code_here p n k {i} q = go (nth p n) refl
   where
     go : (o : Option Thread) → nth p n ≡ o → nth p n ≡ some (code p n)
     go none z = absurd (none-some (subst (λ (y : Option Thread). nth (opt y [] (λ t. t)) k ≡ some i) z q))
-    go (some t) z = z ∙ ap some (sym (code-is p n z))
+    go (some t) z = z ∙ ap some (sym (code_is p n z))
 
 -- the row of a thread that stands as a says
-pub row-here : (p : Prog) (as₁ : List At) (ws : ℕ → List Ev) → Pending p as₁ ws → (n : ℕ) (a : At) → nth as₁ n ≡ some a → Row (code p n) a (ws n)
-row-here p as₁ ws pend n a q = subst (λ (z : At). Row (code p n) z (ws n)) (stand-is as₁ n q) (pend .rows n)
+pub row_here : (p : Prog) (as₁ : List At) (ws : ℕ → List Ev) → Pending p as₁ ws → (n : ℕ) (a : At) → nth as₁ n ≡ some a → Row (code p n) a (ws n)
+row_here p as₁ ws pend n a q = subst (λ (z : At). Row (code p n) z (ws n)) (stand-is as₁ n q) (pend.rows n)
 
 -- a thread at its end with an empty row; and so it is where there is no thread
 abbrev pub Stopped : Prog → List At → ℕ → Type 0
-Stopped p as₁ n = (stand as₁ n .pc ≡ length (code p n)) × (stand as₁ n .waits ≡ [])
+Stopped p as₁ n = ((stand as₁ n).pc ≡ length (code p n)) × ((stand as₁ n).waits ≡ [])
 
 pub absent : (p : Prog) (as₁ : List At) (ws : ℕ → List Ev) → Pending p as₁ ws → (n : ℕ) → length p ≤ n → Stopped p as₁ n
 absent p as₁ ws pend n l =
-    let many = pend .many in
-    rw (nth-past p n l, nth-past as₁ n (omega arith)) (refl, refl)
+    let many = pend.many in
+    rw (nth_past p n l, nth_past as₁ n (omega arith)) (refl, refl)
 
 -- thread n, which stood as a says, stands as b says
 module _ (as₁ : List At) (n : ℕ) (a b : At) (q : nth as₁ n ≡ some a) where
@@ -75,15 +75,15 @@ module _ (as₁ : List At) (n : ℕ) (a b : At) (q : nth as₁ n ≡ some a) whe
   -- its row is us, and the others' are what they were
   pub pending-put : (p : Prog) (ws : ℕ → List Ev) (us : List Ev) → Pending p as₁ ws → Row (code p n) b us → Pending p (put as₁ n b) (upd ws n us)
   pending-put p ws us h r = record {
-    many = length-put as₁ n b ∙ h .many;
-    rows = λ k. elim (same-or n k) [ inl z ↦ subst (λ (j : ℕ). Row (code p j) (stand (put as₁ n b) j) (upd ws n us j)) z here | inr d ↦ there k d ];
+    many = length-put as₁ n b ∙ h.many;
+    rows = λ k. elim (same_or n k) [ inl z ↦ subst (λ (j : ℕ). Row (code p j) (stand (put as₁ n b) j) (upd ws n us j)) z here | inr d ↦ there k d ];
   }
     where
       here : Row (code p n) (stand (put as₁ n b) n) (upd ws n us n)
       here = subst (λ (z : At). Row (code p n) z (upd ws n us n)) (sym stand-here) (subst (λ (z : List Ev). Row (code p n) b z) (sym (upd-here ws n us)) r)
 
       there : (k : ℕ) → (n ≡ k → ⊥) → Row (code p k) (stand (put as₁ n b) k) (upd ws n us k)
-      there k d = subst (λ (z : At). Row (code p k) z (upd ws n us k)) (sym (stand-there k d)) (subst (λ (z : List Ev). Row (code p k) (stand as₁ k) z) (sym (upd-there ws n us k d)) (h .rows k))
+      there k d = subst (λ (z : At). Row (code p k) z (upd ws n us k)) (sym (stand-there k d)) (subst (λ (z : List Ev). Row (code p k) (stand as₁ k) z) (sym (upd-there ws n us k d)) (h.rows k))
 
   -- it will read xs n, and the others will read what they would
   module _ (p : Prog) (vs xs : ℕ → List ℕ) (keeps : (k : ℕ) → (n ≡ k → ⊥) → xs k ≡ vs k) where
@@ -94,37 +94,37 @@ module _ (as₁ : List At) (n : ℕ) (a b : At) (q : nth as₁ n ≡ some a) whe
     future-there k d = ap (λ (z : At). rest k (code p k) z (xs k)) (stand-there k d) ∙ ap (λ (z : List ℕ). rest k (code p k) (stand as₁ k) z) (keeps k d)
 
     -- if thread n ends with the same registers, all do
-    pub regs-put : (rest n (code p n) b (xs n)) .regs ≡ (rest n (code p n) a (vs n)) .regs → (k : ℕ) → (future p (put as₁ n b) xs k) .regs ≡ (future p as₁ vs k) .regs
-    regs-put h k = elim (same-or n k) [
-      | inl z ↦ subst (λ (j : ℕ). (future p (put as₁ n b) xs j) .regs ≡ (future p as₁ vs j) .regs) z (ap (λ (y : Alone). y .regs) future-here ∙ (h ∙ ap (λ (y : At). (rest n (code p n) y (vs n)) .regs) (sym (stand-is as₁ n q))))
-      | inr d ↦ ap (λ (y : Alone). y .regs) (future-there k d)
+    pub regs-put : (rest n (code p n) b (xs n)).regs ≡ (rest n (code p n) a (vs n)).regs → (k : ℕ) → (future p (put as₁ n b) xs k).regs ≡ (future p as₁ vs k).regs
+    regs-put h k = elim (same_or n k) [
+      | inl z ↦ subst (λ (j : ℕ). (future p (put as₁ n b) xs j).regs ≡ (future p as₁ vs j).regs) z (ap (λ (y : Alone). y.regs) future-here ∙ (h ∙ ap (λ (y : At). (rest n (code p n) y (vs n)).regs) (sym (stand-is as₁ n q))))
+      | inr d ↦ ap (λ (y : Alone). y.regs) (future-there k d)
     ]
 
     module _ (ws : ℕ → List Ev) (us : List Ev) where
-      pub events-here : events p (put as₁ n b) (upd ws n us) xs n ≡ us ++ (rest n (code p n) b (xs n)) .evs
-      events-here = ap (λ (z : List Ev). z ++ (future p (put as₁ n b) xs n) .evs) (upd-here ws n us) ∙ ap (λ (z : Alone). us ++ z .evs) future-here
+      pub events-here : events p (put as₁ n b) (upd ws n us) xs n ≡ us ++ (rest n (code p n) b (xs n)).evs
+      events-here = ap (λ (z : List Ev). z ++ (future p (put as₁ n b) xs n).evs) (upd-here ws n us) ∙ ap (λ (z : Alone). us ++ z.evs) future-here
 
       pub events-there : (k : ℕ) → (n ≡ k → ⊥) → events p (put as₁ n b) (upd ws n us) xs k ≡ events p as₁ ws vs k
-      events-there k d = ap (λ (z : List Ev). z ++ (future p (put as₁ n b) xs k) .evs) (upd-there ws n us k d) ∙ ap (λ (z : Alone). ws k ++ z .evs) (future-there k d)
+      events-there k d = ap (λ (z : List Ev). z ++ (future p (put as₁ n b) xs k).evs) (upd-there ws n us k d) ∙ ap (λ (z : Alone). ws k ++ z.evs) (future-there k d)
 
 -- thread n does its next instruction
-module _ (p : Prog) (m : List ℕ) (as₁ : List At) (ws : ℕ → List Ev) (pend : Pending p as₁ ws) (n : ℕ) (a b : At) (i : I) (stands : nth as₁ n ≡ some a) (next-i : nth (code p n) (a .pc) ≡ some i) (did : does m a i ≡ some b) where
+module _ (p : Prog) (m : List ℕ) (as₁ : List At) (ws : ℕ → List Ev) (pend : Pending p as₁ ws) (n : ℕ) (a b : At) (i : I) (stands : nth as₁ n ≡ some a) (next-i : nth (code p n) a.pc ≡ some i) (did : does m a i ≡ some b) where
   abbrev pub step-rows : ℕ → List Ev
   step-rows = upd ws n (row-after n a i (ws n))
 
   pub step-pending : Pending p (put as₁ n b) step-rows
-  step-pending = pending-put as₁ n a b stands p ws (row-after n a i (ws n)) pend (row-step n (code p n) a (ws n) (row-here p as₁ ws pend n a stands) m i b next-i did)
+  step-pending = pending-put as₁ n a b stands p ws (row-after n a i (ws n)) pend (row_step n (code p n) a (ws n) (row_here p as₁ ws pend n a stands) m i b next-i did)
 
   -- what is to come is the same, if the instruction is no load
   module _ (vs : ℕ → List ℕ) (calm : is-load i ≡ false) where
-    same-at : Quiet n (code p n) a i (ws n) (vs n) b (rest n (code p n) a (vs n))
-    same-at = quiet n (code p n) a m i b (ws n) (vs n) calm next-i did
+    same_at : Quiet n (code p n) a i (ws n) (vs n) b (rest n (code p n) a (vs n))
+    same_at = quiet n (code p n) a m i b (ws n) (vs n) calm next-i did
 
-    pub step-regs : (k : ℕ) → (future p (put as₁ n b) vs k) .regs ≡ (future p as₁ vs k) .regs
-    step-regs = regs-put as₁ n a b stands p vs vs (λ j d. refl) (sym (same-at .1))
+    pub step-regs : (k : ℕ) → (future p (put as₁ n b) vs k).regs ≡ (future p as₁ vs k).regs
+    step-regs = regs-put as₁ n a b stands p vs vs (λ j d. refl) (sym same_at.1)
 
     pub step-events : (k : ℕ) → events p (put as₁ n b) step-rows vs k ≡ events p as₁ ws vs k
-    step-events k = elim (same-or n k) [
-      | inl z ↦ subst (λ (j : ℕ). events p (put as₁ n b) step-rows vs j ≡ events p as₁ ws vs j) z (events-here as₁ n a b stands p vs vs (λ j d. refl) ws (row-after n a i (ws n)) ∙ (sym (same-at .0) ∙ ap (λ (y : At). ws n ++ (rest n (code p n) y (vs n)) .evs) (sym (stand-is as₁ n stands))))
+    step-events k = elim (same_or n k) [
+      | inl z ↦ subst (λ (j : ℕ). events p (put as₁ n b) step-rows vs j ≡ events p as₁ ws vs j) z (events-here as₁ n a b stands p vs vs (λ j d. refl) ws (row-after n a i (ws n)) ∙ (sym same_at.0 ∙ ap (λ (y : At). ws n ++ (rest n (code p n) y (vs n)).evs) (sym (stand-is as₁ n stands))))
       | inr d ↦ events-there as₁ n a b stands p vs vs (λ j d. refl) ws (row-after n a i (ws n)) k d
     ]

@@ -1,6 +1,6 @@
 use mathlib.Core.Path.{refl}
-use Rattle·model·proofs.theorems_hold.Needs as need
-use Rattle·model·proofs.Theorems.{theorems}
+use Rattle.model.proofs.theorems_hold.Goals as goal
+use Rattle.model.proofs.Theorems.{theorems}
 
-pub returns : need.returns
+pub returns : goal.returns
 returns c = (refl, theorems)

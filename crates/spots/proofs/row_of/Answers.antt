@@ -1,17 +1,16 @@
-use native.Mathlib.Omega.{arith}
-use Prim.Native.Nat.{_+_, _*_, _-_}
-use Rattle·std.proofs.shelf.Bits.{one-shl}
-use Rattle·spots·proofs.Adding.{mask-row-more, row-small}
-use Rattle·spots·proofs.row_of.Needs as need
+use Rattle.std.proofs.Common.{◌+◌, ◌-◌, ◌*◌, arith}
+use Rattle.std.proofs.lemmas.Nat.{one_shl}
+use Rattle.spots.proofs.Adding.{mask-row-more, row_small}
+use Rattle.spots.proofs.row_of.Goals as goal
 
-pub add-bits-in-loop-k : need.add-bits-in-loop-k
-add-bits-in-loop-k c =
-    let s = 8 * c .args .n in
-    let k = c .loop-k .k in
-    omega (arith, one-shl (31 - (s + k)) 32 (omega arith), mask-row-more s k, row-small s (k + 1) (omega arith))
+pub overflow-add-bits-in-loop-k : goal.overflow-add-bits-in-loop-k
+overflow-add-bits-in-loop-k c =
+    let s = 8 * c.args.n in
+    let k = c.loop-k.k in
+    omega (arith, one_shl (31 - (s + k)) 32 (omega arith), mask-row-more s k, row_small s (k + 1) (omega arith))
 
-pub loop-k-again : need.loop-k-again
-loop-k-again c =
-    let s = 8 * c .args .n in
-    let k = c .loop-k .k in
-    omega (arith, one-shl (31 - (s + k)) 32 (omega arith), mask-row-more s k)
+pub loop-k-preserved : goal.loop-k-preserved
+loop-k-preserved c =
+    let s = 8 * c.args.n in
+    let k = c.loop-k.k in
+    omega (arith, one_shl (31 - (s + k)) 32 (omega arith), mask-row-more s k)

@@ -1,11 +1,9 @@
-use Prim.Native.Nat.{_+_, _*_, _≤_}
-use native.Mathlib.Nat.{mul-le-mul-right}
-use native.Mathlib.Omega.{arith}
-use Rattle·explore·proofs.enter.enter.Needs as need
+use Rattle.std.proofs.Common.{◌+◌, ◌*◌, ◌≤◌, mul-le-mul_right, arith}
+use Rattle.explore.proofs.enter.enter.Goals as goal
 
-pub insert-requires : need.insert-requires
-insert-requires c κs =
-    let more : c .args .n + 1 ≤ c .args .limit = omega arith in
-    let w = mul-le-mul-right (c .args .shape .width) more in
-    let e = c .pre .ends in
-    record { probed = c .pre .probed; room = c .pre .room; told = (let t = c .pre .told in omega arith); ends = omega arith; whole = c .pre .whole; free = c .find-place .ensures .free (c .if-entry-since .left) }
+pub insert-requires : goal.insert-requires
+insert-requires c =
+    let more : c.args.n + 1 ≤ c.args.limit = omega arith in
+    let w = mul-le-mul_right c.args.shape.width more in
+    let e = c.requires.ends in
+    record { probed = c.requires.probed; room = c.requires.room; told = (let t = c.requires.told in omega arith); ends = omega arith; whole = c.requires.whole; free = c.find-place.ensures.free c.if-entry-since.false }

@@ -1,22 +1,20 @@
-use mathlib.Core.Path.{_≡_}
-use native.Mathlib.Omega.{arith}
-use lib.ListN.{length}
-use Rattle·explore·proofs.RunBack.{traced, never-long, run-read}
-use Rattle·explore·proofs.runs.run_to.Needs as need
+use Rattle.std.proofs.Common.{◌≡◌, length, arith}
+use Rattle.explore.proofs.RunBack.{traced, never-long, run-read}
+use Rattle.explore.proofs.runs.run_to.Goals as goal
 
-pub walk-back-requires : need.walk-back-requires
-walk-back-requires c κs =
-    let p = c .args .p .now in
-    let few = p .few in
-    let (q, x) = c .pre .explored in
-    record { few = omega arith; traced = traced p q (c .args .edges .now) (c .args .n) x (c .args .from .now) (c .args .i) (c .pre .kept) (c .pre .in-from) (c .pre .below) (c .pre .parents) }
+pub walk-back-requires : goal.walk-back-requires
+walk-back-requires c =
+    let p = c.args.p.now in
+    let few = p.few in
+    let (q, x) = c.requires.explored in
+    record { few = omega arith; traced = traced p q c.args.edges.now c.args.n x c.args.from.now c.args.i c.requires.kept c.requires.in-from c.requires.below c.requires.parents }
 
-pub returns-in-rest : need.returns-in-rest
-returns-in-rest c q x = absurd (never-long (c .args .p .now) q (c .args .edges .now) (c .args .n) x (c .args .i) (c .args .path .now) (c .walk-back .last .path) (c .pre .room) (c .in-rest .ensures tt))
+pub returns-in-default : goal.returns-in-default
+returns-in-default c q x = absurd (never-long c.args.p.now q c.args.edges.now c.args.n x c.args.i c.args.path.now c.walk-back.new.path c.requires.room c.in-default.ensures)
 
-pub returns : need.returns
+pub returns : goal.returns
 returns c q x =
-    let k = c .walk-back .kept .path in
-    let r = c .pre .room in
-    let l : length (c .walk-back .last .path) ≡ 64 = omega arith in
-    run-read (c .args .p .now) q (c .args .edges .now) (c .args .n) x (c .args .i) (c .args .path .now) (c .walk-back .last .path) (c .in-Some .len) l (c .in-Some .ensures tt)
+    let k = c.walk-back.auto.path in
+    let r = c.requires.room in
+    let l : length c.walk-back.new.path ≡ 64 = omega arith in
+    run-read c.args.p.now q c.args.edges.now c.args.n x c.args.i c.args.path.now c.walk-back.new.path c.in-Some.len l c.in-Some.ensures

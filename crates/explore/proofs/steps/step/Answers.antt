@@ -1,39 +1,36 @@
-use mathlib.Core.Path.{_≡_, ap, _∙_}
-use Prim.Native.Nat.{ℕ, _-_, _<_, _≤_}
-use native.Mathlib.Omega.{arith}
-use lib.ListN.{length}
-use Rattle·model.specs.Machine.{next, out}
-use Rattle·program.specs.Meaning.{program}
-use Rattle·program.proofs.WriteWords.{length-program}
-use Rattle·explore·specs.Found.{move-of}
-use Rattle·explore·proofs.MoveNumbers.{move-next, move-out, stepped-by}
-use Rattle·explore·proofs.steps.step.Needs as need
+use Rattle.std.proofs.Common.{◌≡◌, ℕ, ◌-◌, ◌<◌, ◌≤◌, length, ap, ◌∙◌, arith}
+use Rattle.model.specs.Machine.{next, out}
+use Rattle.program.specs.Meaning.{program}
+use Rattle.program.proofs.WriteWords.{length-program}
+use Rattle.explore.specs.Found.{move-of}
+use Rattle.explore.proofs.MoveNumbers.{move-next, move-out, stepped_by}
+use Rattle.explore.proofs.steps.step.Goals as goal
 
-pub next-requires : need.next-requires
-next-requires c κs =
-    let l = length-program (c .args .p .now) in
-    let w = c .pre .long in
-    record { same = c .pre .same; room = omega arith; thread = omega arith; holds = c .pre .holds }
+pub next-requires : goal.next-requires
+next-requires c =
+    let l = length-program c.args.p.now in
+    let w = c.requires.long in
+    record { same = c.requires.same; room = omega arith; thread = omega arith; holds = c.requires.holds }
 
-pub out-requires : need.out-requires
-out-requires c κs =
-    let l = length-program (c .args .p .now) in
-    let w = c .pre .long in
-    let b = c .pre .below in
-    record { same = c .pre .same; room = omega arith; thread = omega arith; holds = c .pre .holds }
+pub out-requires : goal.out-requires
+out-requires c =
+    let l = length-program c.args.p.now in
+    let w = c.requires.long in
+    let b = c.requires.below in
+    record { same = c.requires.same; room = omega arith; thread = omega arith; holds = c.requires.holds }
 
-pub returns-then-m-p : need.returns-then-m-p
+pub returns-then-m-p : goal.returns-then-m-p
 returns-then-m-p c =
-    let p = program (c .args .p .now) in
-    let l = length-program (c .args .p .now) in
-    let h : c .args .m < length p = omega arith in
-    stepped-by p (move-of (length p) (c .args .m)) (next (c .args .m)) (c .args .from .now) (c .next .result) (c .next .last .to) (move-next (length p) (c .args .m) h) (c .next .ensures)
+    let p = program c.args.p.now in
+    let l = length-program c.args.p.now in
+    let h : c.args.m < length p = omega arith in
+    stepped_by p (move-of (length p) c.args.m) (next c.args.m) c.args.from.now c.next.result c.next.new.to (move-next (length p) c.args.m h) c.next.ensures
 
-pub returns-else-m-p : need.returns-else-m-p
+pub returns-else-m-p : goal.returns-else-m-p
 returns-else-m-p c =
-    let p = program (c .args .p .now) in
-    let m = c .args .m in
-    let l = length-program (c .args .p .now) in
+    let p = program c.args.p.now in
+    let m = c.args.m in
+    let l = length-program c.args.p.now in
     let h : length p ≤ m = omega arith in
-    stepped-by p (move-of (length p) m) (out (m - c .args .p .now .count)) (c .args .from .now) (c .out .result) (c .out .last .to)
-    (move-out (length p) m h ∙ ap (λ (n : ℕ). out (m - n)) l) (c .out .ensures)
+    stepped_by p (move-of (length p) m) (out (m - c.args.p.now.count)) c.args.from.now c.out.result c.out.new.to
+    (move-out (length p) m h ∙ ap (λ (n : ℕ). out (m - n)) l) c.out.ensures

@@ -1,60 +1,56 @@
-use mathlib.Core.Path.{_≡_, refl, sym, _∙_}
-use mathlib.Core.List.{List}
-use Prim.Native.Nat.{ℕ, _*_, _+_, _-_, _≤_}
-use native.Mathlib.Omega.{arith}
-use lib.ListN.{length}
-use Rattle·program.specs.Meaning.{program}
-use Rattle·fences·specs.Rows.{rows-from}
-use Rattle·fences·proofs.AllOutcomes.{lists}
-use Rattle·fences·proofs.RowLaws.{rows-count}
-use Rattle·fences·proofs.Listed.{all-states, rows-fit, rows-too-long}
-use Rattle·fences·proofs.listing.list_found.Needs as need
+use Rattle.std.proofs.Common.{◌≡◌, ℕ, ◌+◌, ◌-◌, ◌*◌, ◌≤◌, List, length, sym, refl, ◌∙◌, arith}
+use Rattle.program.specs.Meaning.{program}
+use Rattle.fences.specs.Rows.{rows-from}
+use Rattle.fences.proofs.AllOutcomes.{lists}
+use Rattle.fences.proofs.RowLaws.{rows-count}
+use Rattle.fences.proofs.Listed.{all-states, rows_fit, rows-too-long}
+use Rattle.fences.proofs.listing.list_found.Goals as goal
 
-pub mark-at-once-requires : need.mark-at-once-requires
-mark-at-once-requires c κs =
-    let f = c .split-at-mut-cost .ensures .front-len in
-    let b = c .split-at-mut-cost .ensures .back-len in
-    let r = c .pre .room in
-    record { explored = (c .args .queue .now, c .pre .explored); held = c .pre .kept; in-cost = omega arith; in-from = omega arith }
+pub mark-at-once-requires : goal.mark-at-once-requires
+mark-at-once-requires c =
+    let f = c.split-at-mut-cost.ensures.front-len in
+    let b = c.split-at-mut-cost.ensures.back_len in
+    let r = c.requires.room in
+    record { explored = (c.args.queue.now, c.requires.explored); held = c.requires.kept; in-cost = omega arith; in-from = omega arith }
 
-pub first-done-first-requires : need.first-done-first-requires
-first-done-first-requires c κs = record { explored = (c .args .edges .now, c .pre .explored); held = c .pre .held }
+pub first-done-first-requires : goal.first-done-first-requires
+first-done-first-requires c = record { explored = (c.args.edges.now, c.requires.explored); held = c.requires.held }
 
-pub returns-then-count-out : need.returns-then-count-out
+pub returns-then-count-out : goal.returns-then-count-out
 returns-then-count-out c =
-    let p = c .args .p .now in
-    let q = c .args .queue .now in
-    let cost = c .mark-at-once .last .cost in (
-      rows-from (program p) q cost 0 (c .args .n),
-      lists (program p) q (c .args .edges .now) cost (c .args .n) (c .pre .explored) (c .mark-at-once .ensures .marks q (c .pre .explored)),
-      rows-too-long p q (c .args .edges .now) cost (c .args .n) (c .args .n - c .first-done-first .result) (length (c .args .out .now)) (c .pre .explored) (rows-count (program p) q cost (c .args .n) (c .first-done-first .result) (c .first-done-first .ensures)) (c .if-count-out .taken),
+    let p = c.args.p.now in
+    let q = c.args.queue.now in
+    let cost = c.mark-at-once.new.cost in (
+      rows-from (program p) q cost 0 c.args.n,
+      lists (program p) q c.args.edges.now cost c.args.n c.requires.explored (c.mark-at-once.ensures.marks q c.requires.explored),
+      rows-too-long p q c.args.edges.now cost c.args.n (c.args.n - c.first-done-first.result) (length c.args.out.now) c.requires.explored (rows-count (program p) q cost c.args.n c.first-done-first.result c.first-done-first.ensures) c.if-count-out.true,
       refl,
     )
 
-pub write-rows-requires : need.write-rows-requires
-write-rows-requires c κs =
-    let p = c .args .p .now in
-    let q = c .args .queue .now in
-    let cost = c .mark-at-once .last .cost in
-    let f = c .split-at-mut-cost .ensures .front-len in
-    let k = c .mark-at-once .kept .cost in
+pub write-rows-requires : goal.write-rows-requires
+write-rows-requires c =
+    let p = c.args.p.now in
+    let q = c.args.queue.now in
+    let cost = c.mark-at-once.new.cost in
+    let f = c.split-at-mut-cost.ensures.front-len in
+    let k = c.mark-at-once.auto.cost in
     record {
-      explored = (c .args .edges .now, c .pre .explored);
-      held = c .pre .held;
+      explored = (c.args.edges.now, c.requires.explored);
+      held = c.requires.held;
       marked = omega arith;
-      done = c .first-done-first .ensures;
-      room = rows-fit p q (c .args .edges .now) cost (c .args .n) (c .args .n - c .first-done-first .result) (length (c .args .out .now)) (c .pre .explored) (rows-count (program p) q cost (c .args .n) (c .first-done-first .result) (c .first-done-first .ensures)) (c .if-count-out .left);
+      done = c.first-done-first.ensures;
+      room = rows_fit p q c.args.edges.now cost c.args.n (c.args.n - c.first-done-first.result) (length c.args.out.now) c.requires.explored (rows-count (program p) q cost c.args.n c.first-done-first.result c.first-done-first.ensures) c.if-count-out.false;
     }
 
-pub returns : need.returns
+pub returns : goal.returns
 returns c =
-    let p = c .args .p .now in
-    let q = c .args .queue .now in
-    let cost = c .mark-at-once .last .cost in (
-      rows-from (program p) q cost 0 (c .args .n),
-      lists (program p) q (c .args .edges .now) cost (c .args .n) (c .pre .explored) (c .mark-at-once .ensures .marks q (c .pre .explored)),
-      all-states (program p) q (c .args .edges .now) (c .args .n) (c .pre .explored),
-      rows-count (program p) q cost (c .args .n) (c .first-done-first .result) (c .first-done-first .ensures),
-      c .write-rows .ensures .written,
-      c .write-rows .ensures .behind,
+    let p = c.args.p.now in
+    let q = c.args.queue.now in
+    let cost = c.mark-at-once.new.cost in (
+      rows-from (program p) q cost 0 c.args.n,
+      lists (program p) q c.args.edges.now cost c.args.n c.requires.explored (c.mark-at-once.ensures.marks q c.requires.explored),
+      all-states (program p) q c.args.edges.now c.args.n c.requires.explored,
+      rows-count (program p) q cost c.args.n c.first-done-first.result c.first-done-first.ensures,
+      c.write-rows.ensures.written,
+      c.write-rows.ensures.behind,
     )

@@ -1,46 +1,42 @@
-use mathlib.Core.Path.{_≡_, refl, ap, sym, _∙_}
-use Prim.Native.Nat.{ℕ, _+_, _-_, _<_, _≤_}
-use native.Mathlib.Nat.{zero-add}
-use native.Mathlib.Omega.{arith}
-use lib.ListN.{length, length-append}
-use Rattle·program.specs.Meaning.{program}
-use Rattle·fences·specs.Listing.{text}
-use Rattle·fences·specs.Rows.{one-row, rows-from}
-use Rattle·fences·proofs.RowLaws.{rows-skip, text-step, wrote-more, behind-more}
-use Rattle·fences·proofs.listing.write_rows.Needs as need
+use Rattle.std.proofs.Common.{◌≡◌, ℕ, ◌+◌, ◌-◌, ◌<◌, ◌≤◌, length, sym, refl, ap, ◌∙◌, zero-add, arith, length-append}
+use Rattle.program.specs.Meaning.{program}
+use Rattle.fences.specs.Listing.{text}
+use Rattle.fences.specs.Rows.{one-row, rows-from}
+use Rattle.fences.proofs.RowLaws.{rows-skip, text-step, wrote-more, behind_more}
+use Rattle.fences.proofs.listing.write_rows.Goals as goal
 
-pub write-row-at-requires : need.write-row-at-requires
-write-row-at-requires c κs =
-    let p = program (c .args .p .now) in
-    let q = c .args .queue .now in
-    let cost = c .args .cost .now in
-    let i = c .loop-i .i in
-    let n = c .args .n in
-    let h = c .loop-i-test .taken in
+pub write-row-at-requires : goal.write-row-at-requires
+write-row-at-requires c =
+    let p = program c.args.p.now in
+    let q = c.args.queue.now in
+    let cost = c.args.cost.now in
+    let i = c.loop-i.i in
+    let n = c.args.n in
+    let h = c.loop-i-test.true in
     let e = ap length (text-step p q cost i n h) ∙ length-append (text (one-row p q cost i)) (text (rows-from p q cost (i + 1) (n - (i + 1)))) in
-    let l = c .loop-i .inv .1 in
-    let r = c .pre .room in
-    let k = c .loop-i .kept .out in
-    record { explored = c .pre .explored; held = c .pre .held; below = h; marked = c .pre .marked; room = omega arith }
+    let l = c.loop-i.invariant.1 in
+    let r = c.requires.room in
+    let k = c.loop-i.auto.out in
+    record { explored = c.requires.explored; held = c.requires.held; below = h; marked = c.requires.marked; room = omega arith }
 
-pub loop-i-holds : need.loop-i-holds
-loop-i-holds c =
-    let e = rows-skip (program (c .args .p .now)) (c .args .queue .now) (c .args .cost .now) (c .args .n) (c .args .first) (c .pre .done) in
+pub loop-i-init : goal.loop-i-init
+loop-i-init c =
+    let e = rows-skip (program c.args.p.now) c.args.queue.now c.args.cost.now c.args.n c.args.first c.requires.done in
     (ap text (sym e), zero-add _ ∙ ap (λ z. length (text z)) (sym e), refl)
 
-pub loop-i-again : need.loop-i-again
-loop-i-again c =
-    let p = program (c .args .p .now) in
-    let q = c .args .queue .now in
-    let cost = c .args .cost .now in
-    let i = c .loop-i .i in
-    let n = c .args .n in
-    let h = c .loop-i-test .taken in
-    let w = c .write-row-at .ensures in
+pub loop-i-preserved : goal.loop-i-preserved
+loop-i-preserved c =
+    let p = program c.args.p.now in
+    let q = c.args.queue.now in
+    let cost = c.args.cost.now in
+    let i = c.loop-i.i in
+    let n = c.args.n in
+    let h = c.loop-i-test.true in
+    let w = c.write-row-at.ensures in
     let e = ap length (text-step p q cost i n h) ∙ length-append (text (one-row p q cost i)) (text (rows-from p q cost (i + 1) (n - (i + 1)))) in
-    let l = c .loop-i .inv .1 in
-    let long = w .long in (
-      wrote-more p q cost (c .args .out .now) (c .loop-i .out) (c .write-row-at .last .out) i n (c .loop-i .at) (c .write-row-at .result) h (c .loop-i .inv .0) w,
+    let l = c.loop-i.invariant.1 in
+    let long = w.long in (
+      wrote-more p q cost c.args.out.now c.loop-i.out c.write-row-at.new.out i n c.loop-i.at c.write-row-at.result h c.loop-i.invariant.0 w,
       omega arith,
-      behind-more (c .args .out .now) (c .loop-i .out) (c .write-row-at .last .out) (text (one-row p q cost i)) (c .loop-i .at) (c .write-row-at .result) (length (text (rows-from p q cost 0 n))) w (omega arith) (c .loop-i .inv .2),
+      behind_more c.args.out.now c.loop-i.out c.write-row-at.new.out (text (one-row p q cost i)) c.loop-i.at c.write-row-at.result (length (text (rows-from p q cost 0 n))) w (omega arith) c.loop-i.invariant.2,
     )

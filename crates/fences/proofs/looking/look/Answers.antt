@@ -1,15 +1,14 @@
-use native.Mathlib.Omega.{arith}
-use lib.ListN.{length}
-use Rattle·program.specs.Meaning.{program}
-use Rattle·fences·proofs.Answered.{looked-post, no-program-post, few-post}
-use Rattle·fences·proofs.looking.look.Needs as need
+use Rattle.std.proofs.Common.{length, arith}
+use Rattle.program.specs.Meaning.{program}
+use Rattle.fences.proofs.Answered.{looked-post, no-program-post, few-post}
+use Rattle.fences.proofs.looking.look.Goals as goal
 
-pub returns-then-work-most : need.returns-then-work-most
-returns-then-work-most c = few-post (c .args .words .now) (c .args .most) (length (c .args .work .now)) (c .args .out .now) (c .if-work-most .taken)
+pub returns-then-work-most : goal.returns-then-work-most
+returns-then-work-most c = few-post c.args.words.now c.args.most (length c.args.work.now) c.args.out.now c.if-work-most.true
 
-pub returns-in-rest : need.returns-in-rest
-returns-in-rest c = no-program-post (c .args .words .now) (c .args .most) (length (c .args .work .now)) (c .args .out .now) (c .in-rest .ensures tt) (c .if-work-most .left)
+pub returns-in-default : goal.returns-in-default
+returns-in-default c = no-program-post c.args.words.now c.args.most (length c.args.work.now) c.args.out.now c.in-default.ensures c.if-work-most.false
 
-pub returns : need.returns
+pub returns : goal.returns
 returns c =
-    looked-post (c .args .words .now) (c .args .most) (length (c .args .work .now)) (c .args .out .now) (c .look-in .last .out) (program (c .in-Some .p)) (c .look-in .result) (c .in-Some .ensures tt) (omega arith) (c .if-work-most .left) (c .look-in .ensures)
+    looked-post c.args.words.now c.args.most (length c.args.work.now) c.args.out.now c.look-in.new.out (program c.in-Some.p) c.look-in.result c.in-Some.ensures (omega arith) c.if-work-most.false c.look-in.ensures

@@ -1,8 +1,8 @@
-use Rattle·fences·proofs.TellLaws.{wrote-no-spot, wrote-spot}
-use Rattle·fences·proofs.telling.write_spot.Needs as need
+use Rattle.fences.proofs.TellLaws.{wrote-no-spot, wrote-spot}
+use Rattle.fences.proofs.telling.write_spot.Goals as goal
 
-pub returns-then-fences-s-eq0 : need.returns-then-fences-s-eq0
-returns-then-fences-s-eq0 c = wrote-no-spot (c .args .fences) (c .args .s) (c .args .out .now) (c .args .at) (c .if-fences-s-eq0 .taken)
+pub returns-then-fences-s-eq0 : goal.returns-then-fences-s-eq0
+returns-then-fences-s-eq0 c = wrote-no-spot c.args.fences c.args.s c.args.out.now c.args.at c.if-fences-s-eq0.true
 
-pub returns : need.returns
-returns c = wrote-spot (c .args .fences) (c .args .s) (c .args .out .now) (c .args .at) (c .pre .room) (c .if-fences-s-eq0 .left)
+pub returns : goal.returns
+returns c = wrote-spot c.args.fences c.args.s c.args.out.now c.args.at c.requires.room c.if-fences-s-eq0.false

@@ -1,25 +1,23 @@
-use Prim.Native.Nat.{_<_}
-use native.Mathlib.Omega.{arith}
-use lib.ListN.{length}
-use Rattle·graph·proofs.Tracing.{counted-none, counted-down, counted-room, counted-more, counted-all}
-use Rattle·graph·proofs.walks.count_links.Needs as need
+use Rattle.std.proofs.Common.{◌<◌, length, arith}
+use Rattle.graph.proofs.Tracing.{counted_none, counted-down, counted-room, counted-more, counted-all}
+use Rattle.graph.proofs.walks.count_links.Goals as goal
 
-pub offset-from-node : need.offset-from-node
-offset-from-node c =
-    let h : c .back .node < length (c .args .from .now) = counted-room (c .args .from .now) (c .args .to) (c .back .len) (c .back .node) (omega arith) (c .back .inv) in
+pub offset-bounds-from-node : goal.offset-bounds-from-node
+offset-bounds-from-node c =
+    let h : c.back.node < length c.args.from.now = counted-room c.args.from.now c.args.to c.back.len c.back.node (omega arith) c.back.invariant in
     omega arith
 
-pub index-from-node : need.index-from-node
-index-from-node c = counted-room (c .args .from .now) (c .args .to) (c .back .len) (c .back .node) (omega arith) (c .back .inv)
+pub bounds-from-node : goal.bounds-from-node
+bounds-from-node c = counted-room c.args.from.now c.args.to c.back.len c.back.node (omega arith) c.back.invariant
 
-pub back-holds : need.back-holds
-back-holds c = counted-none (c .args .from .now) (c .args .to) (c .pre)
+pub back-init : goal.back-init
+back-init c = counted_none c.args.from.now c.args.to c.requires
 
-pub back-less : need.back-less
-back-less c = counted-down (c .args .from .now) (c .args .to) (c .back .len) (c .back .node) (omega arith) (c .back .inv)
+pub back-smaller : goal.back-smaller
+back-smaller c = counted-down c.args.from.now c.args.to c.back.len c.back.node (omega arith) c.back.invariant
 
-pub back-again : need.back-again
-back-again c = counted-more (c .args .from .now) (c .args .to) (c .back .len) (c .back .node) (omega arith) (c .back .inv)
+pub back-preserved : goal.back-preserved
+back-preserved c = counted-more c.args.from.now c.args.to c.back.len c.back.node (omega arith) c.back.invariant
 
-pub returns : need.returns
-returns c = counted-all (c .args .from .now) (c .args .to) (c .back .len) (c .back .node) (omega arith) (c .back .inv)
+pub returns : goal.returns
+returns c = counted-all c.args.from.now c.args.to c.back.len c.back.node (omega arith) c.back.invariant

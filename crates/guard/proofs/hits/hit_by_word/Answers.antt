@@ -1,13 +1,11 @@
-use mathlib.Core.Path.{sym, ap, _∙_}
-use Prim.Native.Nat.{_/_, _%_}
-use native.Mathlib.Omega.{arith}
-use Rattle·std.proofs.shelf.Bits.{and-mask}
-use Rattle·guard·specs.Masks.{bit-of}
-use Rattle·guard·proofs.HitWords.{some-wait}
-use Rattle·guard·proofs.hits.hit_by_word.Needs as need
+use Rattle.std.proofs.Common.{◌/◌, ◌%◌, sym, ap, ◌∙◌, arith}
+use Rattle.std.proofs.lemmas.Nat.{and_mask}
+use Rattle.guard.specs.Masks.{bit-of}
+use Rattle.guard.proofs.HitWords.{some-wait}
+use Rattle.guard.proofs.hits.hit_by_word.Goals as goal
 
-pub returns : need.returns
+pub returns : goal.returns
 returns c =
-    c .bit-at .ensures
-    ∙ ap (bit-of (c .args .thread)) (and-mask (c .args .word / 65536) 4)
-    ∙ sym (some-wait (c .args .thread) (c .args .word / 65536 % 16) (c .args .word / 1048576) (omega arith))
+    c.bit-at.ensures
+    ∙ ap (bit-of c.args.thread) (and_mask (c.args.word / 65536) 4)
+    ∙ sym (some-wait c.args.thread (c.args.word / 65536 % 16) (c.args.word / 1048576) (omega arith))

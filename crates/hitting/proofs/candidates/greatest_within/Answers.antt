@@ -1,13 +1,13 @@
-use lib.Bits.{and-le-l}
-use native.Mathlib.Omega.{arith}
-use Rattle·hitting·proofs.Steps.{leading-small, greatest-fill}
-use Rattle·hitting·proofs.candidates.greatest_within.Needs as need
+use lib.Bits.{and_le_l}
+use Rattle.std.proofs.Common.{arith}
+use Rattle.hitting.proofs.Steps.{leading-small, greatest-fill}
+use Rattle.hitting.proofs.candidates.greatest_within.Goals as goal
 
-pub sub-highest : need.sub-highest
-sub-highest c = and-le-l (c .args .from) (c .args .among)
+pub overflow-sub-highest : goal.overflow-sub-highest
+overflow-sub-highest c = and_le_l c.args.from c.args.among
 
-pub sub-highest-2 : need.sub-highest-2
-sub-highest-2 c = leading-small (c .args .from) (c .args .among) (omega arith) (c .if-inside-from .left)
+pub overflow-sub-highest-2 : goal.overflow-sub-highest-2
+overflow-sub-highest-2 c = leading-small c.args.from c.args.among (omega arith) c.if-inside-from.false
 
-pub returns : need.returns
-returns c = greatest-fill (c .args .from) (c .args .among) (omega arith) (c .if-inside-from .left)
+pub returns : goal.returns
+returns c = greatest-fill c.args.from c.args.among (omega arith) c.if-inside-from.false

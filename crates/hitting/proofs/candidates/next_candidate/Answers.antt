@@ -1,10 +1,10 @@
-use native.Mathlib.Omega.{arith}
-use Rattle·hitting·proofs.Steps.{some-bit, down-lowered}
-use Rattle·hitting·proofs.candidates.next_candidate.Needs as need
+use Rattle.std.proofs.Common.{arith}
+use Rattle.hitting.proofs.Steps.{some-bit, down-lowered}
+use Rattle.hitting.proofs.candidates.next_candidate.Goals as goal
 
-pub without-lowest-x-requires : need.without-lowest-x-requires
-without-lowest-x-requires c κs = some-bit (c .args .bits) (c .down .x) (omega arith)
+pub without-lowest-x-requires : goal.without-lowest-x-requires
+without-lowest-x-requires c = some-bit c.args.bits c.down.x (omega arith)
 
-pub down-again-then-x-bits : need.down-again-then-x-bits
-down-again-then-x-bits c =
-    down-lowered (c .args .clauses .now) (c .args .among) (c .args .bits) (c .args .from) (c .down .x) (c .without-lowest-x .result) (c .down .inv) (omega arith) (c .without-lowest-x .ensures)
+pub down-preserved-then-x-bits : goal.down-preserved-then-x-bits
+down-preserved-then-x-bits c =
+    down-lowered c.args.clauses.now c.args.among c.args.bits c.args.from c.down.x c.without-lowest-x.result c.down.invariant (omega arith) c.without-lowest-x.ensures

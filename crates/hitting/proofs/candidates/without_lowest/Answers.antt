@@ -1,5 +1,5 @@
-use Rattle·hitting·proofs.Steps.{lowered}
-use Rattle·hitting·proofs.candidates.without_lowest.Needs as need
+use Rattle.hitting.proofs.Steps.{lowered}
+use Rattle.hitting.proofs.candidates.without_lowest.Goals as goal
 
-pub returns : need.returns
-returns c = lowered (c .args .x) (c .pre)
+pub returns : goal.returns
+returns c = lowered c.args.x c.requires

@@ -1,7 +1,7 @@
-use mathlib.Core.Path.{refl}
-use Rattle·lent·specs.Hash.{stir}
-use Rattle·lent·proofs.hash.stirred.Needs as need
+use Rattle.std.proofs.Common.{refl}
+use Rattle.lent.specs.Hash.{stir}
+use Rattle.lent.proofs.hash.stirred.Goals as goal
 
-pub returns : need.returns
+pub returns : goal.returns
 unfolding stir
 returns c = refl

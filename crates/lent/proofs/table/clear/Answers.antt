@@ -1,17 +1,12 @@
-use mathlib.Core.Path.{_∙_}
-use native.Mathlib.Omega.{arith}
-use Prim.Native.Nat.{_<_}
-use lib.ListN.{length}
-use mathlib.Core.Logic.{_≢_}
-use borrow.Author.Count.{below-more}
-use Rattle·std.proofs.shelf.Lists.{getD-set-same, getD-set-other, drop-set-lt}
-use Rattle·lent·proofs.table.clear.Needs as need
+use Rattle.std.proofs.Common.{◌<◌, ◌≢◌, length, ◌∙◌, arith, below_more}
+use Rattle.std.proofs.lemmas.List.{get_or-set_same, get_or-set_other, drop-set-lt}
+use Rattle.lent.proofs.table.clear.Goals as goal
 
-pub loop-p-again : need.loop-p-again
-loop-p-again c =
-    let t = c .loop-p .table in
-    let p = c .loop-p .p in
+pub loop-p-preserved : goal.loop-p-preserved
+loop-p-preserved c =
+    let t = c.loop-p.table in
+    let p = c.loop-p.p in
     let lt : p < length t = omega arith in (
-      below-more _ _ (λ k h. let ne : k ≢ p = omega arith in getD-set-other t p k 0 0 ne ∙ c .loop-p .inv .0 k h) (getD-set-same t p 0 0 lt),
-      drop-set-lt (c .args .count) t p 0 (c .loop-p-test .taken) ∙ c .loop-p .inv .1,
+      below_more _ _ (λ k h. let ne : k ≢ p = omega arith in get_or-set_other t p k 0 0 ne ∙ c.loop-p.invariant.0 k h) (get_or-set_same t p 0 0 lt),
+      drop-set-lt c.args.count t p 0 c.loop-p-test.true ∙ c.loop-p.invariant.1,
     )

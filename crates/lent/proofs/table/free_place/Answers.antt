@@ -1,8 +1,8 @@
-use native.Mathlib.Omega.{arith}
-use Rattle·lent·proofs.Probing.{not-past}
-use Rattle·lent·proofs.table.free_place.Needs as need
+use Rattle.std.proofs.Common.{arith}
+use Rattle.lent.proofs.Probing.{not-past}
+use Rattle.lent.proofs.table.free_place.Goals as goal
 
-pub returns : need.returns
+pub returns : goal.returns
 returns c =
-    let m = not-past (c .args .table .now) (c .args .since) (c .args .from) (c .loop-at .at) (c .pre .place) (c .loop-at .inv .1) (c .pre .behind) (c .pre .empty) in
-    record { behind = c .loop-at .inv .0; inside = omega arith; empty = c .loop-at-test .left; full = c .loop-at .inv .1 }
+    let m = not-past c.args.table.now c.args.since c.args.from c.loop-at.at c.requires.place c.loop-at.invariant.1 c.requires.behind c.requires.empty in
+    record { behind = c.loop-at.invariant.0; inside = omega arith; empty = c.loop-at-test.false; full = c.loop-at.invariant.1 }

@@ -1,6 +1,6 @@
-use Rattle·lent·proofs.Probing.{written}
-use Rattle·lent·proofs.table.insert.Needs as need
+use Rattle.lent.proofs.Probing.{written}
+use Rattle.lent.proofs.table.insert.Goals as goal
 
-pub returns : need.returns
+pub returns : goal.returns
 returns c =
-    written (c .args .shape) (c .args .queue .now) (c .args .table .now) (c .args .since) (c .args .n) (c .args .key .now) (c .args .place) (c .copy-from-slice .last .self) (c .pre .probed) (c .pre .room) (c .pre .ends) (c .pre .whole) (c .pre .free) (c .copy-from-slice .ensures .after)
+    written c.args.shape c.args.queue.now c.args.table.now c.args.since c.args.n c.args.key.now c.args.place c.copy-from-slice.new.self c.requires.probed c.requires.room c.requires.ends c.requires.whole c.requires.free c.copy-from-slice.ensures.after

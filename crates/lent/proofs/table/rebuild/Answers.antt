@@ -1,24 +1,20 @@
-use mathlib.Core.Path.{refl}
-use Prim.Native.Nat.{_*_, _≤_}
-use native.Mathlib.Nat.{mul-le-mul-right}
-use native.Mathlib.Omega.{arith}
-use lib.ListN.{length}
-use Rattle·lent·proofs.Probing.{probed-none}
-use Rattle·lent·proofs.RecordLaws.{more-words, ends-within}
-use Rattle·lent·proofs.table.rebuild.Needs as need
+use Rattle.std.proofs.Common.{◌*◌, ◌≤◌, length, refl, mul-le-mul_right, arith}
+use Rattle.lent.proofs.Probing.{probed_none}
+use Rattle.lent.proofs.RecordLaws.{more-words, ends-within}
+use Rattle.lent.proofs.table.rebuild.Goals as goal
 
-pub loop-i-holds : need.loop-i-holds
-loop-i-holds c =
-    let w = mul-le-mul-right (c .args .shape .width) (c .pre .begun) in
-    let h = c .pre .held in
-    let k = c .clear .kept .table in
-    (probed-none (c .args .shape) (c .args .queue .now) (c .clear .last .table) (c .args .since) (omega arith) (omega arith) (λ p l. let z = c .clear .ensures .free p (omega (arith, c .table-places .ensures)) in omega arith), refl)
+pub loop-i-init : goal.loop-i-init
+loop-i-init c =
+    let w = mul-le-mul_right c.args.shape.width c.requires.begun in
+    let h = c.requires.held in
+    let k = c.clear.auto.table in
+    (probed_none c.args.shape c.args.queue.now c.clear.new.table c.args.since (omega arith) (omega arith) (λ p l. let z = c.clear.ensures.free p (omega (arith, c.table-places.ensures)) in omega arith), refl)
 
-pub enter-requires : need.enter-requires
-enter-requires c κs =
+pub enter-requires : goal.enter-requires
+enter-requires c =
     record {
-      probed = c .loop-i .inv .0;
+      probed = c.loop-i.invariant.0;
       room = omega arith;
       told = omega arith;
-      ends = omega (arith, more-words (c .loop-i .i) (c .args .shape .width), ends-within (c .args .shape .width) (c .args .n) (c .loop-i .i) (c .loop-i-test .taken));
+      ends = omega (arith, more-words c.loop-i.i c.args.shape.width, ends-within c.args.shape.width c.args.n c.loop-i.i c.loop-i-test.true);
     }

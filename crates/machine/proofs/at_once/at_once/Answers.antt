@@ -1,37 +1,34 @@
-use mathlib.Core.Path.{sym, subst}
-use mathlib.Core.Bool.{Bool}
-use mathlib.Core.List.{List}
-use Prim.Native.Nat.{ℕ}
-use Rattle·model.specs.Machine.{St, out, move}
-use Rattle·program.specs.Instructions.{instruction}
-use Rattle·program.specs.Meaning.{program}
-use Rattle·machine·specs.Post.{Stepped}
-use Rattle·machine·proofs.FirstWord.{few-words}
-use Rattle·machine·proofs.StepLaws.{has-next, once-none, once-done, once-stored}
-use Rattle·machine·proofs.at_once.at_once.Needs as need
+use Rattle.std.proofs.Common.{ℕ, Bool, List, sym, subst}
+use Rattle.model.specs.Machine.{St, out, move}
+use Rattle.program.specs.Instructions.{instruction}
+use Rattle.program.specs.Meaning.{program}
+use Rattle.machine.specs.Post.{Stepped}
+use Rattle.machine.proofs.FirstWord.{few_words}
+use Rattle.machine.proofs.StepLaws.{has-next, once-none, once-done, once-stored}
+use Rattle.machine.proofs.at_once.at_once.Goals as goal
 
-pub returns-in-rest : need.returns-in-rest
-returns-in-rest c =
-    let p = program (c .args .p .now) in
-    once-none p (c .args .n .0) (c .args .from .now) (c .args .to .now) (has-next p (c .args .n .0) (c .args .from .now) (c .pc .result) _ (c .pre .holds) (c .pre .thread) (c .pc .ensures) (c .in-rest .ensures tt))
+pub returns-in-default : goal.returns-in-default
+returns-in-default c =
+    let p = program c.args.p.now in
+    once-none p c.args.n.0 c.args.from.now c.args.to.now (has-next p c.args.n.0 c.args.from.now c.pc.result _ c.requires.holds c.requires.thread c.pc.ensures c.in-default.ensures)
 
-pub returns-then-not-is-store : need.returns-then-not-is-store
+pub returns-then-not-is-store : goal.returns-then-not-is-store
 returns-then-not-is-store c =
-    let p = program (c .args .p .now) in
-    once-done p (c .args .n .0) (instruction (c .in-Some .i)) (c .args .from .now) (c .next .last .to)
-    (has-next p (c .args .n .0) (c .args .from .now) (c .pc .result) _ (c .pre .holds) (c .pre .thread) (c .pc .ensures) (c .in-Some .ensures tt .0))
-    (sym (c .if-not-is-store .ensures tt))
-    (c .if-not-next .ensures tt)
+    let p = program c.args.p.now in
+    once-done p c.args.n.0 (instruction c.in-Some.i) c.args.from.now c.next.new.to
+    (has-next p c.args.n.0 c.args.from.now c.pc.result _ c.requires.holds c.requires.thread c.pc.ensures c.in-Some.ensures.0)
+    (sym c.if-not-is-store.ensures)
+    c.if-not-next.ensures
 
-pub part-words-end : need.part-words-end
-part-words-end c = few-words (c .args .p .now) (c .args .from .now) (c .pre .holds)
+pub slice-bounds-words-end : goal.slice-bounds-words-end
+slice-bounds-words-end c = few_words c.args.p.now c.args.from.now c.requires.holds
 
-pub returns : need.returns
+pub returns : goal.returns
 returns c =
-    let p = program (c .args .p .now) in
-    let n = c .args .n .0 in
-    once-stored p n (instruction (c .in-Some .i)) (c .args .from .now) (c .next .last .to) (c .out .last .to) (c .out .result)
-    (has-next p n (c .args .from .now) (c .pc .result) _ (c .pre .holds) (c .pre .thread) (c .pc .ensures) (c .in-Some .ensures tt .0))
-    (sym (c .if-not-is-store .ensures tt))
-    (c .if-not-next .ensures tt)
-    (subst (λ (ws : List ℕ). Stepped (λ (s : St). move p s (out n)) ws (c .out .result) (c .out .last .to)) (c .copy-from-slice .ensures .after) (c .out .ensures))
+    let p = program c.args.p.now in
+    let n = c.args.n.0 in
+    once-stored p n (instruction c.in-Some.i) c.args.from.now c.next.new.to c.out.new.to c.out.result
+    (has-next p n c.args.from.now c.pc.result _ c.requires.holds c.requires.thread c.pc.ensures c.in-Some.ensures.0)
+    (sym c.if-not-is-store.ensures)
+    c.if-not-next.ensures
+    (subst (λ (ws : List ℕ). Stepped (λ (s : St). move p s (out n)) ws c.out.result c.out.new.to) c.copy-from-slice.ensures.after c.out.ensures)

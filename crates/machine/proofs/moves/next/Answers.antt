@@ -1,53 +1,50 @@
-use mathlib.Core.Path.{_≡_, ap, sym, subst, _∙_}
-use mathlib.Core.List.{List}
-use Prim.Native.Nat.{ℕ, _<_}
-use native.Mathlib.Omega.{arith}
-use Rattle·model.specs.Machine.{does, with-thread}
-use Rattle·program.specs.Instructions.{instruction}
-use Rattle·program.specs.Meaning.{program}
-use Rattle·machine·specs.Packed.{Packs}
-use Rattle·machine·specs.Effects.{with-words}
-use Rattle·machine·proofs.MoveLaws.{stands, instr-at, memory-is, next-none, next-some, next-held, length-put}
-use Rattle·machine·proofs.StateLaws.{put-packs}
-use Rattle·machine·proofs.moves.next.Needs as need
+use Rattle.std.proofs.Common.{◌≡◌, ℕ, ◌<◌, List, sym, ap, ◌∙◌, subst, arith}
+use Rattle.model.specs.Machine.{does, with-thread}
+use Rattle.program.specs.Instructions.{instruction}
+use Rattle.program.specs.Meaning.{program}
+use Rattle.machine.specs.Packed.{Packs}
+use Rattle.machine.specs.Effects.{with-words}
+use Rattle.machine.proofs.MoveLaws.{stands, instr-at, memory-is, next-none, next-some, next-held, length-put}
+use Rattle.machine.proofs.StateLaws.{put-packs}
+use Rattle.machine.proofs.moves.next.Goals as goal
 
-pub returns-in-rest : need.returns-in-rest
-returns-in-rest c s h =
-    let p = program (c .args .p .now) in
-    let n = c .args .n .0 in
-    let (a, e, w, l) = stands p (c .args .from .now) n (c .words-of-thread .result) (c .words-of-thread .ensures) (c .pre .holds) (c .pre .thread) s h in
-    next-none p s n a e (instr-at p n (c .pc .result) a _ (c .pc .ensures a w) (c .in-rest .ensures tt))
+pub returns-in-default : goal.returns-in-default
+returns-in-default c s h =
+    let p = program c.args.p.now in
+    let n = c.args.n.0 in
+    let (a, e, w, l) = stands p c.args.from.now n c.words-of-thread.result c.words-of-thread.ensures c.requires.holds c.requires.thread s h in
+    next-none p s n a e (instr-at p n c.pc.result a _ (c.pc.ensures a w) c.in-default.ensures)
 
-pub does-requires : need.does-requires
-does-requires c κs =
-    let p = program (c .args .p .now) in
-    let (s, h, f) = c .pre .holds in
-    let (a, e, w, l) = stands p (c .args .from .now) (c .args .n .0) (c .words-of-thread .result) (c .words-of-thread .ensures) (c .pre .holds) (c .pre .thread) s h in
-    let i = c .in-Some .ensures tt in
-    let pc = c .pc .ensures a w in
-    let few = i .2 in
-    record { standing = (a, w, omega arith); fine = i .1 }
+pub does-requires : goal.does-requires
+does-requires c =
+    let p = program c.args.p.now in
+    let (s, h, f) = c.requires.holds in
+    let (a, e, w, l) = stands p c.args.from.now c.args.n.0 c.words-of-thread.result c.words-of-thread.ensures c.requires.holds c.requires.thread s h in
+    let i = c.in-Some.ensures in
+    let pc = c.pc.ensures a w in
+    let few = i.2 in
+    record { standing = (a, w, omega arith); fine = i.1 }
 
-pub returns-in-rest-does : need.returns-in-rest-does
-returns-in-rest-does c s h =
-    let p = program (c .args .p .now) in
-    let n = c .args .n .0 in
-    let (a, e, w, l) = stands p (c .args .from .now) n (c .words-of-thread .result) (c .words-of-thread .ensures) (c .pre .holds) (c .pre .thread) s h in
-    let i = instruction (c .in-Some .i) in
-    let m = ap (λ (m : List ℕ). does m a i) (sym (memory-is (c .args .from .now) s h)) in
-    next-held p s n a i e (instr-at p n (c .pc .result) a _ (c .pc .ensures a w) (c .in-Some .ensures tt .0)) (m ∙ c .in-rest-does .ensures tt a w)
+pub returns-in-default-does : goal.returns-in-default-does
+returns-in-default-does c s h =
+    let p = program c.args.p.now in
+    let n = c.args.n.0 in
+    let (a, e, w, l) = stands p c.args.from.now n c.words-of-thread.result c.words-of-thread.ensures c.requires.holds c.requires.thread s h in
+    let i = instruction c.in-Some.i in
+    let m = ap (λ (m : List ℕ). does m a i) (sym (memory-is c.args.from.now s h)) in
+    next-held p s n a i e (instr-at p n c.pc.result a _ (c.pc.ensures a w) c.in-Some.ensures.0) (m ∙ c.in-default-does.ensures a w)
 
-pub returns : need.returns
+pub returns : goal.returns
 returns c s h =
-    let p = program (c .args .p .now) in
-    let n = c .args .n .0 in
-    let (a, e, w, l) = stands p (c .args .from .now) n (c .words-of-thread .result) (c .words-of-thread .ensures) (c .pre .holds) (c .pre .thread) s h in
-    let i = instruction (c .in-Some .i) in
-    let (b, d, k) = c .in-Some-does .ensures tt a w in
-    let m = ap (λ (m : List ℕ). does m a i) (sym (memory-is (c .args .from .now) s h)) in
-    let same = ap (λ (z : List ℕ). with-words z n (c .in-Some-does .done)) (c .copy-from-slice .ensures .after) in (
+    let p = program c.args.p.now in
+    let n = c.args.n.0 in
+    let (a, e, w, l) = stands p c.args.from.now n c.words-of-thread.result c.words-of-thread.ensures c.requires.holds c.requires.thread s h in
+    let i = instruction c.in-Some.i in
+    let (b, d, k) = c.in-Some-does.ensures a w in
+    let m = ap (λ (m : List ℕ). does m a i) (sym (memory-is c.args.from.now s h)) in
+    let same = ap (λ (z : List ℕ). with-words z n c.in-Some-does.done) c.copy-from-slice.ensures.after in (
       with-thread s n b,
-      next-some p s n a b i e (instr-at p n (c .pc .result) a _ (c .pc .ensures a w) (c .in-Some .ensures tt .0)) (m ∙ d),
-      subst (λ (z : List ℕ). Packs z (with-thread s n b)) (sym (c .put-words .ensures ∙ same)) (put-packs (c .args .from .now) s n (c .in-Some-does .done) b h l k),
-      length-put (s .threads) n b,
+      next-some p s n a b i e (instr-at p n c.pc.result a _ (c.pc.ensures a w) c.in-Some.ensures.0) (m ∙ d),
+      subst (λ (z : List ℕ). Packs z (with-thread s n b)) (sym (c.put-words.ensures ∙ same)) (put-packs c.args.from.now s n c.in-Some-does.done b h l k),
+      length-put s.threads n b,
     )

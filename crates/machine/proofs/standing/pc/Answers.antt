@@ -1,9 +1,7 @@
-use mathlib.Core.Path.{_∙_}
-use Prim.Native.Nat.{_/_, _+_, _*_}
-use lib.ListN.{getD}
-use Rattle·std.proofs.shelf.Bits.{and-mask}
-use Rattle·machine·proofs.FirstWord.{word-says}
-use Rattle·machine·proofs.standing.pc.Needs as need
+use Rattle.std.proofs.Common.{◌+◌, ◌*◌, ◌/◌, get_or, ◌∙◌}
+use Rattle.std.proofs.lemmas.Nat.{and_mask}
+use Rattle.machine.proofs.FirstWord.{word-says}
+use Rattle.machine.proofs.standing.pc.Goals as goal
 
-pub returns : need.returns
-returns c s a h e = and-mask (getD (c .args .state .now) (1 + 3 * c .args .n) 0 / 65536) 4 ∙ word-says (c .args .state .now) s (c .args .n) a h e .0
+pub returns : goal.returns
+returns c s a h e = and_mask (get_or c.args.state.now (1 + 3 * c.args.n) 0 / 65536) 4 ∙ (word-says c.args.state.now s c.args.n a h e).0

@@ -1,44 +1,42 @@
-use Prim.Native.Nat.{_+_, _*_, _<_, _≤_}
-use native.Mathlib.Omega.{arith}
-use lib.ListN.{length, getD}
-use Rattle·program.specs.Meaning.{thread, program}
-use Rattle·program.proofs.WriteWords.{length-program}
-use Rattle·once·proofs.Ended.{done-more, not-done, done-all, code-at, tested-at, at-tested}
-use Rattle·once·proofs.finished.finished.Needs as need
+use Rattle.std.proofs.Common.{◌+◌, ◌*◌, ◌<◌, ◌≤◌, length, get_or, arith}
+use Rattle.program.specs.Meaning.{thread, program}
+use Rattle.program.proofs.WriteWords.{length-program}
+use Rattle.once.proofs.Ended.{done_more, not_done, done_all, code_at, tested_at, at-tested}
+use Rattle.once.proofs.finished.finished.Goals as goal
 
-pub index-state-n : need.index-state-n
-index-state-n c =
-    let l = length-program (c .args .p .now) in
-    let w = c .pre in
+pub bounds-state-n : goal.bounds-state-n
+bounds-state-n c =
+    let l = length-program c.args.p.now in
+    let w = c.requires in
     omega arith
 
-pub returns-then-word-t : need.returns-then-word-t
+pub returns-then-word-t : goal.returns-then-word-t
 returns-then-word-t c =
-    let p = c .args .p .now in
-    let ws = c .args .state .now in
-    let n = c .loop-n .n in
-    let t = getD (p .threads) n (c .index-p-n .result) in
-    not-done (program p) ws (c .pre) n (thread t) (code-at p n (c .index-p-n .result) (c .loop-n-test .taken))
-    (λ d. c .if-word-t .taken (at-tested t (getD ws (1 + 3 * n) 0) (d .0)))
+    let p = c.args.p.now in
+    let ws = c.args.state.now in
+    let n = c.loop-n.n in
+    let t = get_or p.threads n c.index-p-n.result in
+    not_done (program p) ws c.requires n (thread t) (code_at p n c.index-p-n.result c.loop-n-test.true)
+    (λ d. c.if-word-t.true (at-tested t (get_or ws (1 + 3 * n) 0) d.0))
 
-pub returns-then-word-ne0 : need.returns-then-word-ne0
+pub returns-then-word-ne0 : goal.returns-then-word-ne0
 returns-then-word-ne0 c =
-    let p = c .args .p .now in
-    let n = c .loop-n .n in
-    let t = getD (p .threads) n (c .index-p-n .result) in
-    not-done (program p) (c .args .state .now) (c .pre) n (thread t) (code-at p n (c .index-p-n .result) (c .loop-n-test .taken))
-    (λ d. c .if-word-ne0 .taken (d .1))
+    let p = c.args.p.now in
+    let n = c.loop-n.n in
+    let t = get_or p.threads n c.index-p-n.result in
+    not_done (program p) c.args.state.now c.requires n (thread t) (code_at p n c.index-p-n.result c.loop-n-test.true)
+    (λ d. c.if-word-ne0.true d.1)
 
-pub loop-n-again : need.loop-n-again
-loop-n-again c =
-    let p = c .args .p .now in
-    let ws = c .args .state .now in
-    let n = c .loop-n .n in
-    let t = getD (p .threads) n (c .index-p-n .result) in
-    done-more (program p) ws (c .pre) n (thread t) (code-at p n (c .index-p-n .result) (c .loop-n-test .taken))
-    (tested-at t (getD ws (1 + 3 * n) 0) (c .if-word-t .left), c .if-word-ne0 .left) (c .loop-n .inv)
+pub loop-n-preserved : goal.loop-n-preserved
+loop-n-preserved c =
+    let p = c.args.p.now in
+    let ws = c.args.state.now in
+    let n = c.loop-n.n in
+    let t = get_or p.threads n c.index-p-n.result in
+    done_more (program p) ws c.requires n (thread t) (code_at p n c.index-p-n.result c.loop-n-test.true)
+    (tested_at t (get_or ws (1 + 3 * n) 0) c.if-word-t.false, c.if-word-ne0.false) c.loop-n.invariant
 
-pub returns : need.returns
+pub returns : goal.returns
 returns c =
-    let l = length-program (c .args .p .now) in
-    done-all (program (c .args .p .now)) (c .args .state .now) (c .loop-n .n) (omega arith) (c .loop-n .inv)
+    let l = length-program c.args.p.now in
+    done_all (program c.args.p.now) c.args.state.now c.loop-n.n (omega arith) c.loop-n.invariant

@@ -1,39 +1,35 @@
-use mathlib.Core.Path.{_≡_, refl, ap, subst, _∙_}
-use mathlib.Core.List.{List, _∷_, _++_}
-use Prim.Native.Nat.{ℕ, _+_, _*_}
-use native.Mathlib.Omega.{arith}
-use lib.ListN.{set}
-use Rattle·std.proofs.shelf.Lists.{take-set, drop-set-lt}
-use Rattle·model.specs.Machine.{outcome}
-use Rattle·report·proofs.Written.{Written, written-none, written-more, written-all, drop-further}
-use Rattle·report·proofs.outcomes.write_outcome.Needs as need
+use Rattle.std.proofs.Common.{◌≡◌, ℕ, ◌+◌, ◌*◌, List, ◌∷◌, ◌++◌, set, refl, ap, ◌∙◌, subst, arith}
+use Rattle.std.proofs.lemmas.List.{take-set, drop-set-lt}
+use Rattle.model.specs.Machine.{outcome}
+use Rattle.report.proofs.Written.{Written, written_none, written-more, written_all, drop-further}
+use Rattle.report.proofs.outcomes.write_outcome.Goals as goal
 
-pub loop-n-holds : need.loop-n-holds
-loop-n-holds c = (written-none (c .args .out .now) (c .args .state .now) (c .args .at) (c .args .once) (omega arith), refl)
+pub loop-n-init : goal.loop-n-init
+loop-n-init c = (written_none c.args.out.now c.args.state.now c.args.at c.args.once (omega arith), refl)
 
-pub loop-n-again : need.loop-n-again
-loop-n-again c =
-    let at = c .args .at in
-    let n = c .loop-n .n in
-    let o = c .loop-n .out in
-    let o′ = c .write-fields .last .out in
-    let e = set (c .args .out .now) at (c .args .once) in (
-      written-more e o o′ (c .args .state .now) at (c .args .once) n (c .loop-n .inv .0) (c .write-fields .ensures .written),
-      drop-further (at + (1 + 4 * n) + 4) (at + (9 + 4 * c .args .threads)) o′ o (omega arith) (c .write-fields .ensures .behind) ∙ c .loop-n .inv .1,
+pub loop-n-preserved : goal.loop-n-preserved
+loop-n-preserved c =
+    let at = c.args.at in
+    let n = c.loop-n.n in
+    let o = c.loop-n.out in
+    let o' = c.write-fields.new.out in
+    let e = set c.args.out.now at c.args.once in (
+      written-more e o o' c.args.state.now at c.args.once n c.loop-n.invariant.0 c.write-fields.ensures.written,
+      drop-further (at + (1 + 4 * n) + 4) (at + (9 + 4 * c.args.threads)) o' o (omega arith) c.write-fields.ensures.behind ∙ c.loop-n.invariant.1,
     )
 
-pub returns : need.returns
+pub returns : goal.returns
 returns c =
-    let at = c .args .at in
-    let k = c .args .threads in
-    let ws = c .args .state .now in
-    let once = c .args .once in
-    let o = c .loop-n .out in
-    let o′ = c .write-fields-2 .last .out in
-    let e = set (c .args .out .now) at once in
-    let q : c .loop-n .n ≡ k = omega arith in
-    let w : Written e o ws at once k = subst (Written e o ws at once) q (c .loop-n .inv .0) in
+    let at = c.args.at in
+    let k = c.args.threads in
+    let ws = c.args.state.now in
+    let once = c.args.once in
+    let o = c.loop-n.out in
+    let o' = c.write-fields-2.new.out in
+    let e = set c.args.out.now at once in
+    let q : c.loop-n.n ≡ k = omega arith in
+    let w : Written e o ws at once k = subst (Written e o ws at once) q c.loop-n.invariant.0 in
     record {
-      written = λ s h. written-all e o o′ ws at once k s h (c .pre .words) w (c .write-fields-2 .ensures .written) ∙ ap (λ (z : List ℕ). z ++ (once ∷ outcome s)) (take-set (c .args .out .now) at once);
-      behind = drop-further (at + (1 + 4 * k) + 8) (at + (9 + 4 * k)) o′ o (omega arith) (c .write-fields-2 .ensures .behind) ∙ c .loop-n .inv .1 ∙ drop-set-lt (at + (9 + 4 * k)) (c .args .out .now) at once (omega arith);
+      written = λ s h. written_all e o o' ws at once k s h c.requires.words w c.write-fields-2.ensures.written ∙ ap (λ (z : List ℕ). z ++ (once ∷ outcome s)) (take-set c.args.out.now at once);
+      behind = drop-further (at + (1 + 4 * k) + 8) (at + (9 + 4 * k)) o' o (omega arith) c.write-fields-2.ensures.behind ∙ c.loop-n.invariant.1 ∙ drop-set-lt (at + (9 + 4 * k)) c.args.out.now at once (omega arith);
     }

@@ -1,25 +1,21 @@
-use mathlib.Core.Path.{refl, ap, sym, subst, _∙_}
-use mathlib.Core.List.{List}
-use Prim.Native.Nat.{ℕ}
-use native.Mathlib.Omega.{arith}
-use lib.ListN.{length, replicate}
-use Rattle·program.specs.Meaning.{program}
-use Rattle·machine.specs.Post.{Holds}
-use Rattle·tests·proofs.Held.{holds-at-first}
-use Rattle·tests·proofs.play.play.Needs as need
+use Rattle.std.proofs.Common.{ℕ, List, length, replicate, sym, refl, ap, ◌∙◌, subst, arith}
+use Rattle.program.specs.Meaning.{program}
+use Rattle.machine.specs.Post.{Holds}
+use Rattle.tests.proofs.Held.{holds-at-first}
+use Rattle.tests.proofs.play.play.Goals as goal
 
-pub loop-i-holds : need.loop-i-holds
-loop-i-holds c =
-    let k = c .pre .long in
-    let s = c .pre .same in
-    let l = c .fill .ensures .len in
-    let e = c .fill .ensures .after (λ y e. e) in
-    (holds-at-first (c .args .p .now) (c .fill .last .self) (e ∙ ap (λ n. replicate n 0) k), omega arith, omega arith)
+pub loop-i-init : goal.loop-i-init
+loop-i-init c =
+    let k = c.requires.long in
+    let s = c.requires.same in
+    let l = c.fill.ensures.len in
+    let e = c.fill.ensures.after (λ y e. e) in
+    (holds-at-first c.args.p.now c.fill.new.self (e ∙ ap (λ n. replicate n 0) k), omega arith, omega arith)
 
-pub loop-i-again : need.loop-i-again
-loop-i-again c =
-    let i = c .loop-i .inv in
-    let l = c .copy-from-slice .ensures .len in
-    let e = c .copy-from-slice .ensures .after in
+pub loop-i-preserved : goal.loop-i-preserved
+loop-i-preserved c =
+    let i = c.loop-i.invariant in
+    let l = c.copy-from-slice.ensures.len in
+    let e = c.copy-from-slice.ensures.after in
     let n = ap length e in
-    (subst (λ (ws : List ℕ). Holds (program (c .args .p .now)) ws) (sym e) (c .if-not-make .ensures tt refl), l ∙ i .1, sym n ∙ l ∙ i .1)
+    (subst (λ (ws : List ℕ). Holds (program c.args.p.now) ws) (sym e) (c.if-not-make.ensures refl), l ∙ i.1, sym n ∙ l ∙ i.1)

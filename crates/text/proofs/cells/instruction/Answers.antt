@@ -1,38 +1,35 @@
-use mathlib.Core.Path.{_≡_, sym, ap, _∙_}
-use mathlib.Core.List.{List, map}
-use native.Mathlib.Omega.{arith}
-use lib.ListN.{length}
-use Rattle·std.proofs.shelf.Lists.{length-map}
-use Rattle·text·specs.declared.tokens.Token.{Token}
-use Rattle·text·specs.Grammar.{instruction}
-use Rattle·text·specs.Meaning.{token, places}
-use Rattle·text·proofs.Few.{of-1, of-3, of-5}
-use Rattle·text·proofs.Forms.{other-length}
-use Rattle·text·proofs.cells.instruction.Needs as need
+use Rattle.std.proofs.Common.{◌≡◌, List, map, length, sym, ap, ◌∙◌, arith}
+use Rattle.std.proofs.lemmas.List.{length-map}
+use Rattle.text.specs.declared.tokens.Token.{Token}
+use Rattle.text.specs.Grammar.{instruction}
+use Rattle.text.specs.Meaning.{token, places}
+use Rattle.text.proofs.Few.{of-1, of-3, of-5}
+use Rattle.text.proofs.Forms.{other_length}
+use Rattle.text.proofs.cells.instruction.Goals as goal
 
-pub returns-in-1 : need.returns-in-1
+pub returns-in-1 : goal.returns-in-1
 returns-in-1 c =
-    let ts = c .args .tokens .now in
+    let ts = c.args.tokens.now in
     let one : length ts ≡ 1 = omega arith in
-    let e = ap (λ (ts : List Token). instruction (places (c .args .named .now)) (map token ts)) (of-1 ts _ one) in
-    rw e (c .of-one .ensures (places (c .args .named .now)))
+    let e = ap (λ (ts : List Token). instruction (places c.args.named.now) (map token ts)) (of-1 ts _ one) in
+    rw e (c.of-one.ensures (places c.args.named.now))
 
-pub returns-in-3 : need.returns-in-3
+pub returns-in-3 : goal.returns-in-3
 returns-in-3 c =
-    let ts = c .args .tokens .now in
+    let ts = c.args.tokens.now in
     let three : length ts ≡ 3 = omega arith in
-    let e = ap (λ (ts : List Token). instruction (places (c .args .named .now)) (map token ts)) (of-3 ts _ three) in
-    rw e (c .of-three .ensures (places (c .args .named .now)))
+    let e = ap (λ (ts : List Token). instruction (places c.args.named.now) (map token ts)) (of-3 ts _ three) in
+    rw e (c.of-three.ensures (places c.args.named.now))
 
-pub returns-in-5 : need.returns-in-5
+pub returns-in-5 : goal.returns-in-5
 returns-in-5 c =
-    let ts = c .args .tokens .now in
+    let ts = c.args.tokens.now in
     let five : length ts ≡ 5 = omega arith in
-    let e = ap (λ (ts : List Token). instruction (places (c .args .named .now)) (map token ts)) (of-5 ts _ five) in
-    rw e (c .of-five .ensures)
+    let e = ap (λ (ts : List Token). instruction (places c.args.named.now) (map token ts)) (of-5 ts _ five) in
+    rw e c.of-five.ensures
 
-pub returns-in-rest : need.returns-in-rest
-returns-in-rest c _ =
-    let ts = c .args .tokens .now in
+pub returns-in-default : goal.returns-in-default
+returns-in-default c _ =
+    let ts = c.args.tokens.now in
     let long = length-map ts token in
-    other-length (places (c .args .named .now)) (map token ts) (omega arith) (omega arith) (omega arith)
+    other_length (places c.args.named.now) (map token ts) (omega arith) (omega arith) (omega arith)

@@ -1,23 +1,23 @@
-use mathlib.Core.Path.{_≡_, sym, subst, _∙_}
-use Rattle·text·specs.Meaning.{token, places}
-use Rattle·text·proofs.Forms.{is-sum, is-load, is-store, is-none}
-use Rattle·text·proofs.cells.of_five.Needs as need
+use Rattle.std.proofs.Common.{◌≡◌, sym, ◌∙◌, subst}
+use Rattle.text.specs.Meaning.{token, places}
+use Rattle.text.proofs.Forms.{is_sum, is-load, is_store, is_none}
+use Rattle.text.proofs.cells.of_five.Goals as goal
 
-pub returns-then-is-sum : need.returns-then-is-sum
+pub returns-then-is-sum : goal.returns-then-is-sum
 returns-then-is-sum c =
-    let f = is-sum (places (c .args .named .now)) (token (c .args .a)) (token (c .args .b)) (token (c .args .c)) (token (c .args .d)) (token (c .args .e)) (sym (c .if-is-sum .ensures tt)) in
-    rw f (c .sum .ensures (places (c .args .named .now)))
+    let f = is_sum (places c.args.named.now) (token c.args.a) (token c.args.b) (token c.args.c) (token c.args.d) (token c.args.e) (sym c.if-is-sum.ensures) in
+    rw f (c.sum.ensures (places c.args.named.now))
 
-pub returns-then-is-load : need.returns-then-is-load
+pub returns-then-is-load : goal.returns-then-is-load
 returns-then-is-load c =
-    let f = is-load (places (c .args .named .now)) (token (c .args .a)) (token (c .args .b)) (token (c .args .c)) (token (c .args .d)) (token (c .args .e)) (sym (c .if-is-sum .ensures tt)) (sym (c .if-is-load .ensures tt)) in
-    rw f (c .load .ensures)
+    let f = is-load (places c.args.named.now) (token c.args.a) (token c.args.b) (token c.args.c) (token c.args.d) (token c.args.e) (sym c.if-is-sum.ensures) (sym c.if-is-load.ensures) in
+    rw f c.load.ensures
 
-pub returns-then-is-store : need.returns-then-is-store
+pub returns-then-is-store : goal.returns-then-is-store
 returns-then-is-store c =
-    let f = is-store (places (c .args .named .now)) (token (c .args .a)) (token (c .args .b)) (token (c .args .c)) (token (c .args .d)) (token (c .args .e)) (sym (c .if-is-sum .ensures tt)) (sym (c .if-is-load .ensures tt)) (sym (c .if-is-store .ensures tt)) in
-    rw f (c .store .ensures)
+    let f = is_store (places c.args.named.now) (token c.args.a) (token c.args.b) (token c.args.c) (token c.args.d) (token c.args.e) (sym c.if-is-sum.ensures) (sym c.if-is-load.ensures) (sym c.if-is-store.ensures) in
+    rw f c.store.ensures
 
-pub returns : need.returns
+pub returns : goal.returns
 returns c _ =
-    is-none (places (c .args .named .now)) (token (c .args .a)) (token (c .args .b)) (token (c .args .c)) (token (c .args .d)) (token (c .args .e)) (sym (c .if-is-sum .ensures tt)) (sym (c .if-is-load .ensures tt)) (sym (c .if-is-store .ensures tt))
+    is_none (places c.args.named.now) (token c.args.a) (token c.args.b) (token c.args.c) (token c.args.d) (token c.args.e) (sym c.if-is-sum.ensures) (sym c.if-is-load.ensures) (sym c.if-is-store.ensures)

@@ -1,45 +1,39 @@
-use mathlib.Core.Path.{sym, ap, subst, _∙_}
-use Prim.Native.Nat.{ℕ, _≤_, _<_}
-use mathlib.Core.Path.{_≡_}
-use mathlib.Core.Bool.{true, false}
-use mathlib.Core.List.{[]}
-use native.Mathlib.Omega.{arith}
-use lib.ListN.{length, getD}
-use Rattle·std.specs.Of.String.{string-bytes}
-use Rattle·std.proofs.shelf.Equals.{matches-decides}
-use Rattle·std.proofs.shelf.Lists.{length-map}
-use Rattle·text·specs.Bytes.{same}
-use Rattle·text·specs.Meaning.{words}
-use Rattle·text·proofs.Lookup.{looked, upto-none, upto-more, upto-found, upto-all}
-use Rattle·text·proofs.naming.index_of.Needs as need
+use Rattle.std.proofs.Common.{◌≡◌, ℕ, ◌<◌, ◌≤◌, true, false, [], length, get_or, string_bytes, sym, ap, ◌∙◌, subst, arith}
+use Rattle.std.proofs.lemmas.Slice.Eq.{slice_eq-Decides}
+use Rattle.std.proofs.lemmas.List.{length-map}
+use Rattle.text.specs.Bytes.{same}
+use Rattle.text.specs.Meaning.{words}
+use Rattle.text.proofs.Lookup.{looked, upto-none, upto-more, upto-found, upto_all}
+use Rattle.text.proofs.naming.index_of.Goals as goal
+use Rattle.std.proofs.lemmas.Bool.Decides.{Decides-eqb}
 
-pub loop-k-holds : need.loop-k-holds
-loop-k-holds c = upto-none (c .args .word .now) (words (c .args .all .now))
+pub loop-k-init : goal.loop-k-init
+loop-k-init c = upto-none c.args.word.now (words c.args.all.now)
 
-pub returns-then-eq : need.returns-then-eq
+pub returns-then-eq : goal.returns-then-eq
 returns-then-eq c =
-    let all = c .args .all .now in
-    let word = c .args .word .now in
-    let k = c .loop-k .k in
-    let l = c .loop-k-test .taken in
-    let long = length-map all string-bytes in
-    let d = matches-decides _ _ _ (c .eq .ensures) in
-    let e = looked all k (c .index-all-k .result) (c .as-bytes .result .now) word (c .eq .result) l (c .index-all-k .is) (c .as-bytes .ensures .value) d in
-    record { value = upto-found word (words all) k (omega arith) (e ∙ c .if-eq .taken) (c .loop-k .inv); within = l }
+    let all = c.args.all.now in
+    let word = c.args.word.now in
+    let k = c.loop-k.k in
+    let l = c.loop-k-test.true in
+    let long = length-map all string_bytes in
+    let d = slice_eq-Decides Decides-eqb _ _ _ c.eq.ensures in
+    let e = looked all k c.index-all-k.result c.as-bytes.result.now word c.eq.result l c.index-all-k.is c.as-bytes.ensures.value d in
+    record { value = upto-found word (words all) k (omega arith) (e ∙ c.if-eq.true) c.loop-k.invariant; within = l }
 
-pub loop-k-again : need.loop-k-again
-loop-k-again c =
-    let all = c .args .all .now in
-    let word = c .args .word .now in
-    let k = c .loop-k .k in
-    let l = c .loop-k-test .taken in
-    let long = length-map all string-bytes in
-    let d = matches-decides _ _ _ (c .eq .ensures) in
-    let e = looked all k (c .index-all-k .result) (c .as-bytes .result .now) word (c .eq .result) l (c .index-all-k .is) (c .as-bytes .ensures .value) d in
-    upto-more word (words all) k (omega arith) (e ∙ c .if-eq .left) (c .loop-k .inv)
+pub loop-k-preserved : goal.loop-k-preserved
+loop-k-preserved c =
+    let all = c.args.all.now in
+    let word = c.args.word.now in
+    let k = c.loop-k.k in
+    let l = c.loop-k-test.true in
+    let long = length-map all string_bytes in
+    let d = slice_eq-Decides Decides-eqb _ _ _ c.eq.ensures in
+    let e = looked all k c.index-all-k.result c.as-bytes.result.now word c.eq.result l c.index-all-k.is c.as-bytes.ensures.value d in
+    upto-more word (words all) k (omega arith) (e ∙ c.if-eq.false) c.loop-k.invariant
 
-pub returns : need.returns
+pub returns : goal.returns
 returns c =
-    let all = c .args .all .now in
-    let long = length-map all string-bytes in
-    record { value = upto-all (c .args .word .now) (words all) (c .loop-k .k) (omega arith) (c .loop-k .inv); within = tt }
+    let all = c.args.all.now in
+    let long = length-map all string_bytes in
+    record { value = upto_all c.args.word.now (words all) c.loop-k.k (omega arith) c.loop-k.invariant; within = tt }

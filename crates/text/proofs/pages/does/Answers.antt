@@ -1,52 +1,47 @@
-use mathlib.Core.Path.{_≡_, sym, ap, _∙_}
-use mathlib.Core.List.{List, map}
+use Rattle.std.proofs.Common.{◌≡◌, ℕ, ◌<◌, ◌≤◌, List, map, length, vec_items, sym, ap, ◌∙◌, arith}
 use mathlib.Core.Option.{some}
-use Prim.Native.Nat.{ℕ, _≤_, _<_}
-use native.Mathlib.Omega.{arith}
-use lib.ListN.{length}
-use Rattle·std.specs.Of.Vec.{vec-items}
-use Rattle·std.proofs.shelf.Lists.{length-map, map-push}
-use Rattle·std.proofs.shelf.Tests.{eqb-true, eqb-false}
-use Rattle·std.proofs.shelf.Results.{err-from-errBy}
-use Rattle·program.specs.Instructions.{instruction}
-use Rattle·text·specs.Grammar.{Column}
-use Rattle·text·specs.Meaning.{token, places, column}
-use Rattle·text·proofs.Filling.{no-tokens, too-many, no-instruction, one-more}
-use Rattle·text·proofs.pages.does.Needs as need
+use Rattle.std.proofs.lemmas.List.{length-map, map_push}
+use Rattle.std.proofs.lemmas.Bool.{eqb-true, eqb-false}
+use Rattle.std.proofs.lemmas.Result.{err_from_is_err_and}
+use Rattle.program.specs.Instructions.{instruction}
+use Rattle.text.specs.Grammar.{Column}
+use Rattle.text.specs.Meaning.{token, places, column}
+use Rattle.text.proofs.Filling.{no-tokens, too_many, no-instruction, one_more}
+use Rattle.text.proofs.pages.does.Goals as goal
 
-pub returns-then-is-empty : need.returns-then-is-empty
+pub returns-then-is-empty : goal.returns-then-is-empty
 returns-then-is-empty c =
-    let ts = c .args .tokens .now in
+    let ts = c.args.tokens.now in
     let long = length-map ts token in
-    let none = eqb-true (length ts) 0 (sym (c .if-is-empty .ensures tt)) in
-    no-tokens (places (c .args .named .now)) (column (c .args .thread .now)) (map token ts) (omega arith)
+    let none = eqb-true (length ts) 0 (sym c.if-is-empty.ensures) in
+    no-tokens (places c.args.named.now) (column c.args.thread.now) (map token ts) (omega arith)
 
-pub returns-then-len-ge-MOST-INSTRUCTIONS : need.returns-then-len-ge-MOST-INSTRUCTIONS
+pub returns-then-len-ge-MOST-INSTRUCTIONS : goal.returns-then-len-ge-MOST-INSTRUCTIONS
 returns-then-len-ge-MOST-INSTRUCTIONS c _ =
-    let ts = c .args .tokens .now in
+    let ts = c.args.tokens.now in
     let long = length-map ts token in
-    let some-token = eqb-false (length ts) 0 (sym (c .if-is-empty .ensures tt)) in
-    let code = c .args .thread .now .code in
-    let size = length-map (vec-items code) instruction in
-    let fits = code .ok .0 in
-    too-many (places (c .args .named .now)) (column (c .args .thread .now)) (map token ts) (omega arith) (omega arith)
+    let some-token = eqb-false (length ts) 0 (sym c.if-is-empty.ensures) in
+    let code = c.args.thread.now.code in
+    let size = length-map (vec_items code) instruction in
+    let fits = code.ok.0 in
+    too_many (places c.args.named.now) (column c.args.thread.now) (map token ts) (omega arith) (omega arith)
 
-pub returns-in-Break-instruction : need.returns-in-Break-instruction
-returns-in-Break-instruction c =
-    let p = err-from-errBy (c .from-residual .result) (c .from-residual .ensures .1) in
-    let ts = c .args .tokens .now in
+pub returns-in-err-instruction : goal.returns-in-err-instruction
+returns-in-err-instruction c =
+    let p = err_from_is_err_and c.from-residual.result c.from-residual.ensures.1 in
+    let ts = c.args.tokens.now in
     let long = length-map ts token in
-    let some-token = eqb-false (length ts) 0 (sym (c .if-is-empty .ensures tt)) in
-    rw (p .1, p .2) (λ refusal. no-instruction (places (c .args .named .now)) (column (c .args .thread .now)) (map token ts) (omega arith) (c .in-Break-instruction .ensures tt refusal))
+    let some-token = eqb-false (length ts) 0 (sym c.if-is-empty.ensures) in
+    rw (p.1, p.2) (λ refusal. no-instruction (places c.args.named.now) (column c.args.thread.now) (map token ts) (omega arith) (c.in-err-instruction.ensures refusal))
 
-pub returns : need.returns
+pub returns : goal.returns
 returns c =
-    let ts = c .args .tokens .now in
+    let ts = c.args.tokens.now in
     let long = length-map ts token in
-    let some-token = eqb-false (length ts) 0 (sym (c .if-is-empty .ensures tt)) in
-    let code = c .args .thread .now .code in
-    let size = length-map (vec-items code) instruction in
-    let fits = code .ok .0 in
-    let more = sym (map-push instruction (vec-items code) (c .in-Continue-instruction .instruction)) ∙ ap (map instruction) (sym (c .in-Continue-push .ensures tt .items)) in
-    one-more (places (c .args .named .now)) (column (c .args .thread .now)) (map token ts) (places (c .instruction .last .named)) (instruction (c .in-Continue-instruction .instruction)) (omega arith) (omega arith) (c .in-Continue-instruction .ensures tt)
-    ∙ (λ i. some (places (c .instruction .last .named), record { name = column (c .args .thread .now) .name; code = more i }))
+    let some-token = eqb-false (length ts) 0 (sym c.if-is-empty.ensures) in
+    let code = c.args.thread.now.code in
+    let size = length-map (vec_items code) instruction in
+    let fits = code.ok.0 in
+    let more = sym (map_push instruction (vec_items code) c.in-ok-instruction.instruction) ∙ ap (map instruction) (sym c.in-ok-push.ensures.items) in
+    one_more (places c.args.named.now) (column c.args.thread.now) (map token ts) (places c.instruction.new.named) (instruction c.in-ok-instruction.instruction) (omega arith) (omega arith) c.in-ok-instruction.ensures
+    ∙ (λ i. some (places c.instruction.new.named, record { name = (column c.args.thread.now).name; code = more i }))

@@ -1,19 +1,16 @@
-use mathlib.Core.Path.{_≡_, sym, ap, _∙_}
-use native.Mathlib.Omega.{arith}
-use Prim.Native.Nat.{ℕ, _-_}
-use lib.ListN.{length, take}
-use Rattle·text·proofs.Headings.{no-cr-none, no-cr-off, no-cr-on}
-use Rattle·text·proofs.pages.without_cr.Needs as need
+use Rattle.std.proofs.Common.{◌≡◌, ℕ, ◌-◌, length, take, sym, ap, ◌∙◌, arith}
+use Rattle.text.proofs.Headings.{no-cr-none, no-cr-off, no-cr-on}
+use Rattle.text.proofs.pages.without_cr.Goals as goal
 
-pub returns-then-n-eq0 : need.returns-then-n-eq0
-returns-then-n-eq0 c = no-cr-none (c .args .line .now) (omega arith)
+pub returns-then-n-eq0 : goal.returns-then-n-eq0
+returns-then-n-eq0 c = no-cr-none c.args.line.now (omega arith)
 
-pub returns-then-line-n-eq13 : need.returns-then-line-n-eq13
+pub returns-then-line-n-eq13 : goal.returns-then-line-n-eq13
 returns-then-line-n-eq13 c =
-    let l = c .args .line .now in
+    let l = c.args.line.now in
     let n = length l - 1 in
     let width : n - 0 ≡ n = omega arith in
-    ap (λ (m : ℕ). take m l) width ∙ no-cr-off l n (omega arith) (c .if-line-n-eq13 .taken)
+    ap (λ (m : ℕ). take m l) width ∙ no-cr-off l n (omega arith) c.if-line-n-eq13.true
 
-pub returns : need.returns
-returns c = no-cr-on (c .args .line .now) (length (c .args .line .now) - 1) (omega arith) (c .if-line-n-eq13 .left)
+pub returns : goal.returns
+returns c = no-cr-on c.args.line.now (length c.args.line.now - 1) (omega arith) c.if-line-n-eq13.false

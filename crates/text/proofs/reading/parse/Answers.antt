@@ -1,27 +1,24 @@
-use mathlib.Core.Path.{_≡_, sym, ap, _∙_}
-use mathlib.Core.Bool.{true, false}
-use mathlib.Core.List.{List, map}
+use Rattle.std.proofs.Common.{◌≡◌, true, false, List, map, vec_items, sym, ap, ◌∙◌}
 use mathlib.Core.Option.{Option, some, none}
-use Rattle·std.specs.Of.Vec.{vec-items}
-use Rattle·text·specs.Bytes.{empty, pieces}
-use Rattle·text·specs.Grammar.{Page, Listing, each, line, blank-page, whole}
-use Rattle·text·specs.Meaning.{words, column, page}
-use Rattle·text·proofs.Lookup.{empty-map}
-use Rattle·text·proofs.Picks.{pick-true, pick-false, opt-is}
-use Rattle·text·proofs.reading.parse.Needs as need
+use Rattle.text.specs.Bytes.{empty, pieces}
+use Rattle.text.specs.Grammar.{Page, Listing, each, line, blank-page, whole}
+use Rattle.text.specs.Meaning.{words, column, page}
+use Rattle.text.proofs.Lookup.{empty-map}
+use Rattle.text.proofs.Picks.{pick_true, pick-false, opt-is}
+use Rattle.text.proofs.reading.parse.Goals as goal
 
-pub returns-then-is-empty : need.returns-then-is-empty
+pub returns-then-is-empty : goal.returns-then-is-empty
 returns-then-is-empty c _ =
-    let last = c .lines .last .self in
-    let filled : each line blank-page (pieces 10 (c .args .text .now)) ≡ some (page last) =
-    (λ i. each line (record { columns = map column (sym (c .new .ensures .items) i); places = record { numerals = false; words = words (sym (c .new-2 .ensures .items) i) } }) (pieces 10 (sym (c .as-bytes .ensures .value) i))) ∙ c .in-Continue-end .ensures tt in
-    let no-names : empty (page last .columns) ≡ true = sym (empty-map column (vec-items (last .threads)) _ (last .threads .ok .0)) ∙ sym (c .is-empty .ensures) ∙ c .if-is-empty .taken in
-    opt-is none whole filled ∙ pick-true _ _ no-names
+    let last = c.lines.new.self in
+    let filled : each line blank-page (pieces 10 c.args.text.now) ≡ some (page last) =
+    (λ i. each line (record { columns = map column (sym c.new.ensures.items i); places = record { numerals = false; words = words (sym c.new-2.ensures.items i) } }) (pieces 10 (sym c.as-bytes.ensures.value i))) ∙ c.in-ok-end.ensures in
+    let no_names : empty (page last).columns ≡ true = sym (empty-map column (vec_items last.threads) _ last.threads.ok.0) ∙ sym c.is-empty.ensures ∙ c.if-is-empty.true in
+    opt-is none whole filled ∙ pick_true _ _ no_names
 
-pub returns : need.returns
+pub returns : goal.returns
 returns c =
-    let last = c .lines .last .self in
-    let filled : each line blank-page (pieces 10 (c .args .text .now)) ≡ some (page last) =
-    (λ i. each line (record { columns = map column (sym (c .new .ensures .items) i); places = record { numerals = false; words = words (sym (c .new-2 .ensures .items) i) } }) (pieces 10 (sym (c .as-bytes .ensures .value) i))) ∙ c .in-Continue-end .ensures tt in
-    let some-names : empty (page last .columns) ≡ false = sym (empty-map column (vec-items (last .threads)) _ (last .threads .ok .0)) ∙ sym (c .is-empty .ensures) ∙ c .if-is-empty .left in
+    let last = c.lines.new.self in
+    let filled : each line blank-page (pieces 10 c.args.text.now) ≡ some (page last) =
+    (λ i. each line (record { columns = map column (sym c.new.ensures.items i); places = record { numerals = false; words = words (sym c.new-2.ensures.items i) } }) (pieces 10 (sym c.as-bytes.ensures.value i))) ∙ c.in-ok-end.ensures in
+    let some-names : empty (page last).columns ≡ false = sym (empty-map column (vec_items last.threads) _ last.threads.ok.0) ∙ sym c.is-empty.ensures ∙ c.if-is-empty.false in
     opt-is none whole filled ∙ pick-false _ _ some-names

@@ -1,37 +1,32 @@
-use mathlib.Core.Path.{_≡_, refl, sym, ap, _∙_}
-use mathlib.Core.List.{List, [], _∷_, _++_, map}
-use Prim.Native.Nat.{ℕ, _+_, _-_, _<_}
-use native.Mathlib.Omega.{arith}
-use lib.ListN.{length, take, drop}
-use Rattle·std.specs.Of.Vec.{vec-items}
-use Rattle·std.proofs.shelf.Lists.{map-push, take-rest, length-drop}
-use Rattle·text·specs.Bytes.{Word, tokens-on}
-use Rattle·text·specs.Meaning.{token}
-use Rattle·text·proofs.Scanning.{at, one-token, no-token, one-blank, last-token}
-use Rattle·text·proofs.tokens.tokens.Needs as need
+use Rattle.std.proofs.Common.{◌≡◌, ℕ, ◌+◌, ◌-◌, ◌<◌, List, [], ◌∷◌, ◌++◌, map, length, take, drop, vec_items, sym, refl, ap, ◌∙◌, arith}
+use Rattle.std.proofs.lemmas.List.{map_push, take_rest, length-drop}
+use Rattle.text.specs.Bytes.{Word, tokens-on}
+use Rattle.text.specs.Meaning.{token}
+use Rattle.text.proofs.Scanning.{at, one_token, no-token, one-blank, last-token}
+use Rattle.text.proofs.tokens.tokens.Goals as goal
 
-pub loop-i-again-then-has : need.loop-i-again-then-has
-loop-i-again-then-has c = (omega arith, one-blank (c .args .cell .now) _ (c .loop-i .i) (c .loop-i-test .taken) (sym (c .if-has .ensures tt)) (c .loop-i .inv .1))
+pub loop-i-preserved-then-has : goal.loop-i-preserved-then-has
+loop-i-preserved-then-has c = (omega arith, one-blank c.args.cell.now _ c.loop-i.i c.loop-i-test.true (sym c.if-has.ensures) c.loop-i.invariant.1)
 
-pub returns-then-n-eq0 : need.returns-then-n-eq0
+pub returns-then-n-eq0 : goal.returns-then-n-eq0
 returns-then-n-eq0 c _ =
-    no-token (c .args .cell .now) _ _ (c .loop-i .i) _ (take-rest (c .args .cell .now) (c .loop-i .i)) (c .token-len-n .ensures) (c .loop-i .inv .1) (c .if-n-eq0 .taken) (c .loop-i-test .taken) (sym (c .if-has .ensures tt))
+    no-token c.args.cell.now _ _ c.loop-i.i _ (take_rest c.args.cell.now c.loop-i.i) c.token-len-n.ensures c.loop-i.invariant.1 c.if-n-eq0.true c.loop-i-test.true (sym c.if-has.ensures)
 
-pub loop-i-again : need.loop-i-again
-loop-i-again c =
-    let cell = c .args .cell .now in
-    let i = c .loop-i .i in
-    let n = c .token-len-n .result in
+pub loop-i-preserved : goal.loop-i-preserved
+loop-i-preserved c =
+    let cell = c.args.cell.now in
+    let i = c.loop-i.i in
+    let n = c.token-len-n.result in
     let some : 0 < n = omega arith in
-    let within = c .token-len-n .ensures .within in
-    let long : length (take (length cell - i) (drop i cell)) ≡ length cell - i = ap length (take-rest cell i) ∙ length-drop i cell in
+    let within = c.token-len-n.ensures.within in
+    let long : length (take (length cell - i) (drop i cell)) ≡ length cell - i = ap length (take_rest cell i) ∙ length-drop i cell in
     let width : i + n - i ≡ n = omega arith in (
       omega arith,
-      one-token cell _ (map token (vec-items (c .loop-i .found))) i n (take-rest cell i) (c .token-len-n .ensures) (c .loop-i .inv .1) some
+      one_token cell _ (map token (vec_items c.loop-i.found)) i n (take_rest cell i) c.token-len-n.ensures c.loop-i.invariant.1 some
           ∙ ap (λ (ts : List Word). tokens-on (at ts []) (drop (i + n) cell))
-          (ap (λ (k : ℕ). map token (vec-items (c .loop-i .found)) ++ take k (drop i cell) ∷ []) (sym width)
-          ∙ sym (map-push token (vec-items (c .loop-i .found)) _) ∙ ap (map token) (sym (c .in-Continue-push .ensures tt .items))),
+          (ap (λ (k : ℕ). map token (vec_items c.loop-i.found) ++ take k (drop i cell) ∷ []) (sym width)
+          ∙ sym (map_push token (vec_items c.loop-i.found) _) ∙ ap (map token) (sym c.in-ok-push.ensures.items)),
     )
 
-pub returns : need.returns
-returns c = last-token (c .args .cell .now) _ (c .loop-i .i) (c .loop-i-test .left) (c .loop-i .inv .1)
+pub returns : goal.returns
+returns c = last-token c.args.cell.now _ c.loop-i.i c.loop-i-test.false c.loop-i.invariant.1

@@ -1,40 +1,37 @@
-use mathlib.Core.Path.{_≡_, ap, sym, _∙_}
-use mathlib.Core.List.{List}
-use Prim.Native.Nat.{ℕ}
-use native.Mathlib.Omega.{arith}
-use Rattle·model.specs.Machine.{Wait, newest}
-use Rattle·machine·specs.Packed.{pairs}
-use Rattle·machine·proofs.PackLaws.{word-parts}
-use Rattle·machine·proofs.Did.{read-small}
-use Rattle·machine·proofs.WordLaws.{no-waits, row-is}
-use Rattle·machine·proofs.triples.ThreadWords.read.Needs as need
+use Rattle.std.proofs.Common.{◌≡◌, ℕ, List, sym, ap, ◌∙◌, arith}
+use Rattle.model.specs.Machine.{Wait, newest}
+use Rattle.machine.specs.Packed.{pairs}
+use Rattle.machine.proofs.PackLaws.{word-parts}
+use Rattle.machine.proofs.Did.{read_small}
+use Rattle.machine.proofs.WordLaws.{no-waits, row_is}
+use Rattle.machine.proofs.triples.ThreadWords.read.Goals as goal
 
-pub returns-then-len-eq0 : need.returns-then-len-eq0
+pub returns-then-len-eq0 : goal.returns-then-len-eq0
 returns-then-len-eq0 c =
     record {
-      value = λ a h. ap (λ (ws : List Wait). newest ws (c .args .place .0) (c .args .memory)) (sym (no-waits (a .waits) (sym (c .waiting-len .ensures a h) ∙ c .if-len-eq0 .taken)));
-      small = c .pre .small;
+      value = λ a h. ap (λ (ws : List Wait). newest ws c.args.place.0 c.args.memory) (sym (no-waits a.waits (sym (c.waiting-len.ensures a h) ∙ c.if-len-eq0.true)));
+      small = c.requires.small;
     }
 
-pub unpack-row-requires : need.unpack-row-requires
-unpack-row-requires c κs =
-    let (a, h, pc) = c .pre .standing in
-    let e = c .waiting-len .ensures a h in
-    let held = h .0 .held in
+pub unpack-row-requires : goal.unpack-row-requires
+unpack-row-requires c =
+    let (a, h, pc) = c.requires.standing in
+    let e = c.waiting-len.ensures a h in
+    let held = h.0.held in
     omega arith
 
-pub returns : need.returns
+pub returns : goal.returns
 returns c =
-    let t = c .args .self in
-    let q = c .unpack-row .result in
-    let e = c .newest .ensures in
-    let s = read-small (q .items) (q .begin) (q .len) (c .args .place .0) (c .args .memory) (q .small) (c .pre .small) in
+    let t = c.args.self in
+    let q = c.unpack-row.result in
+    let e = c.newest.ensures in
+    let s = read_small q.items q.begin q.len c.args.place.0 c.args.memory q.small c.requires.small in
     record {
       value = λ a h.
           e
-          ∙ ap (λ (ws : List Wait). newest ws (c .args .place .0) (c .args .memory))
-          (c .unpack-row .ensures .is
-          ∙ ap (λ (k : ℕ). pairs k (t .values) (t .places)) (c .waiting-len .ensures a h ∙ sym (word-parts (t .first) (t .values) (t .places) a h .1))
-          ∙ row-is (t .first) (t .values) (t .places) a h);
+          ∙ ap (λ (ws : List Wait). newest ws c.args.place.0 c.args.memory)
+          (c.unpack-row.ensures.is
+          ∙ ap (λ (k : ℕ). pairs k t.values t.places) (c.waiting-len.ensures a h ∙ sym (word-parts t.first t.values t.places a h).1)
+          ∙ row_is t.first t.values t.places a h);
       small = omega arith;
     }

@@ -1,5 +1,5 @@
-use Rattle·machine·proofs.PackLaws.{word-parts}
-use Rattle·machine·proofs.triples.ThreadWords.waiting.Needs as need
+use Rattle.machine.proofs.PackLaws.{word-parts}
+use Rattle.machine.proofs.triples.ThreadWords.waiting.Goals as goal
 
-pub returns : need.returns
-returns c a h = let t = c .args .self in word-parts (t .first) (t .values) (t .places) a h .1
+pub returns : goal.returns
+returns c a h = let t = c.args.self in (word-parts t.first t.values t.places a h).1

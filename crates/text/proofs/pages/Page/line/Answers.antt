@@ -1,31 +1,26 @@
-use mathlib.Core.Path.{_≡_, sym, ap, _∙_}
-use mathlib.Core.Bool.{true, false}
-use mathlib.Core.List.{List}
+use Rattle.std.proofs.Common.{◌≡◌, ℕ, ◌-◌, ◌≤◌, true, false, List, length, take, sym, ap, ◌∙◌, arith}
 use mathlib.Core.Option.{none}
-use Prim.Native.Nat.{ℕ, _-_, _≤_}
-use native.Mathlib.Omega.{arith}
-use lib.ListN.{length, take}
-use Rattle·text·specs.Bytes.{plain, all, but, run, before, no-cr}
-use Rattle·text·specs.Grammar.{content, line}
-use Rattle·text·specs.Meaning.{page}
-use Rattle·text·proofs.Headings.{all-of, not-all-of}
-use Rattle·text·proofs.Picks.{pick-true, pick-false}
-use Rattle·text·proofs.pages.Page.line.Needs as need
+use Rattle.text.specs.Bytes.{plain, all, but, run, before, no-cr}
+use Rattle.text.specs.Grammar.{content, line}
+use Rattle.text.specs.Meaning.{page}
+use Rattle.text.proofs.Headings.{all_of, not-all-of}
+use Rattle.text.proofs.Picks.{pick_true, pick-false}
+use Rattle.text.proofs.pages.Page.line.Goals as goal
 
-pub returns-then-plain-text : need.returns-then-plain-text
+pub returns-then-plain-text : goal.returns-then-plain-text
 returns-then-plain-text c _ =
-    let text = c .without-cr-text .result .now in
-    pick-false _ _ (ap (all plain) (sym (c .without-cr-text .ensures)) ∙ not-all-of plain text (c .run-plain .result) (c .run-plain .ensures .value) (omega arith))
+    let text = c.without-cr-text.result.now in
+    pick-false _ _ (ap (all plain) (sym c.without-cr-text.ensures) ∙ not-all-of plain text c.run-plain.result c.run-plain.ensures.value (omega arith))
 
-pub returns : need.returns
+pub returns : goal.returns
 returns c =
-    let text = c .without-cr-text .result .now in
-    let is = c .without-cr-text .ensures in
-    let s = page (c .args .self .now) in
-    let n = c .run .result in
+    let text = c.without-cr-text.result.now in
+    let is = c.without-cr-text.ensures in
+    let s = page c.args.self.now in
+    let n = c.run.result in
     let width : n - 0 ≡ n = omega arith in
-    let all-plain : all plain (no-cr (c .args .bytes .now)) ≡ true = ap (all plain) (sym is) ∙ all-of plain text (c .run-plain .result) (c .run-plain .ensures .value) (omega arith) (c .run-plain .ensures .within) in
-    let e : line s (c .args .bytes .now) ≡ content s (take (n - 0) text) =
-    pick-true _ _ all-plain ∙ ap (λ (bs : List ℕ). content s (before 35 bs)) (sym is)
-    ∙ ap (λ (m : ℕ). content s (take m text)) (sym (c .run .ensures .value)) ∙ ap (λ (m : ℕ). content s (take m text)) (sym width) in
-    rw e (c .content .ensures)
+    let all_plain : all plain (no-cr c.args.bytes.now) ≡ true = ap (all plain) (sym is) ∙ all_of plain text c.run-plain.result c.run-plain.ensures.value (omega arith) c.run-plain.ensures.within in
+    let e : line s c.args.bytes.now ≡ content s (take (n - 0) text) =
+    pick_true _ _ all_plain ∙ ap (λ (bs : List ℕ). content s (before 35 bs)) (sym is)
+    ∙ ap (λ (m : ℕ). content s (take m text)) (sym c.run.ensures.value) ∙ ap (λ (m : ℕ). content s (take m text)) (sym width) in
+    rw e c.content.ensures

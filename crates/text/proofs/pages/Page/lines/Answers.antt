@@ -1,43 +1,39 @@
-use mathlib.Core.Path.{_≡_, sym, ap, _∙_}
-use mathlib.Core.List.{List}
+use Rattle.std.proofs.Common.{◌≡◌, ℕ, ◌+◌, ◌-◌, ◌<◌, ◌≤◌, List, length, take, drop, sym, ap, ◌∙◌, arith}
 use mathlib.Core.Option.{none}
-use Prim.Native.Nat.{ℕ, _+_, _-_, _≤_, _<_}
-use native.Mathlib.Omega.{arith}
-use lib.ListN.{length, take, drop}
-use Rattle·std.proofs.shelf.Lists.{take-rest, length-drop}
-use Rattle·std.proofs.shelf.Results.{err-from-errBy}
-use Rattle·text·specs.Bytes.{pieces}
-use Rattle·text·specs.Grammar.{Page, each, line}
-use Rattle·text·specs.Meaning.{page}
-use Rattle·text·proofs.Turns.{each-more, each-last, each-none}
-use Rattle·text·proofs.pages.Page.lines.Needs as need
+use Rattle.std.proofs.lemmas.List.{take_rest, length-drop}
+use Rattle.std.proofs.lemmas.Result.{err_from_is_err_and}
+use Rattle.text.specs.Bytes.{pieces}
+use Rattle.text.specs.Grammar.{Page, each, line}
+use Rattle.text.specs.Meaning.{page}
+use Rattle.text.proofs.Turns.{each_more, each_last, each_none}
+use Rattle.text.proofs.pages.Page.lines.Goals as goal
 
-pub returns-in-Break-line : need.returns-in-Break-line
-returns-in-Break-line c =
-    let p = err-from-errBy (c .from-residual .result) (c .from-residual .ensures .1) in
-    let rest = c .loop-rest .rest .now in
-    let n = c .run-n .result in
+pub returns-in-err-line : goal.returns-in-err-line
+returns-in-err-line c =
+    let p = err_from_is_err_and c.from-residual.result c.from-residual.ensures.1 in
+    let rest = c.loop-rest.rest.now in
+    let n = c.run-n.result in
     let width : n - 0 ≡ n = omega arith in
-    rw (p .1, p .2) (λ refusal. c .loop-rest .inv .1 ∙
-    each-none 10 rest _ n (c .run-n .ensures .value) (ap (λ (m : ℕ). take m rest) width) line (page (c .loop-rest .self)) (c .in-Break-line .ensures tt refusal))
+    rw (p.1, p.2) (λ refusal. c.loop-rest.invariant.1 ∙
+    each_none 10 rest _ n c.run-n.ensures.value (ap (λ (m : ℕ). take m rest) width) line (page c.loop-rest.self) (c.in-err-line.ensures refusal))
 
-pub returns-then-n-rest : need.returns-then-n-rest
+pub returns-then-n-rest : goal.returns-then-n-rest
 returns-then-n-rest c =
-    let rest = c .loop-rest .rest .now in
-    let n = c .run-n .result in
+    let rest = c.loop-rest.rest.now in
+    let n = c.run-n.result in
     let width : n - 0 ≡ n = omega arith in
-    c .loop-rest .inv .1 ∙
-    each-last 10 rest _ n (c .run-n .ensures .value) (ap (λ (m : ℕ). take m rest) width) line (page (c .loop-rest .self)) (page (c .line .last .self)) (omega arith) (c .in-Continue-line .ensures tt)
+    c.loop-rest.invariant.1 ∙
+    each_last 10 rest _ n c.run-n.ensures.value (ap (λ (m : ℕ). take m rest) width) line (page c.loop-rest.self) (page c.line.new.self) (omega arith) c.in-ok-line.ensures
 
-pub loop-rest-again : need.loop-rest-again
-loop-rest-again c =
-    let rest = c .loop-rest .rest .now in
-    let n = c .run-n .result in
+pub loop-rest-preserved : goal.loop-rest-preserved
+loop-rest-preserved c =
+    let rest = c.loop-rest.rest.now in
+    let n = c.run-n.result in
     let width : n - 0 ≡ n = omega arith in
-    let left = take-rest rest (n + 1) in
+    let left = take_rest rest (n + 1) in
     let long : length (take (length rest - (n + 1)) (drop (n + 1) rest)) ≡ length rest - (n + 1) = ap length left ∙ length-drop (n + 1) rest in (
-      omega (arith, c .loop-rest .inv .0),
-      c .loop-rest .inv .1 ∙
-          each-more 10 rest _ n (c .run-n .ensures .value) (ap (λ (m : ℕ). take m rest) width) line (page (c .loop-rest .self)) (page (c .line .last .self)) (omega arith) (c .in-Continue-line .ensures tt)
-          ∙ ap (λ (bs : List ℕ). each line (page (c .line .last .self)) (pieces 10 bs)) (sym left),
+      omega (arith, c.loop-rest.invariant.0),
+      c.loop-rest.invariant.1 ∙
+          each_more 10 rest _ n c.run-n.ensures.value (ap (λ (m : ℕ). take m rest) width) line (page c.loop-rest.self) (page c.line.new.self) (omega arith) c.in-ok-line.ensures
+          ∙ ap (λ (bs : List ℕ). each line (page c.line.new.self) (pieces 10 bs)) (sym left),
     )
