@@ -1,6 +1,6 @@
 // The calls for C and Rust, as a static library: include/fences.h declares them. A slice is a pointer and then a length.
 ghost use Rattle.std.specs.Prelude.{◌≡◌, length};
-ghost use Rattle.capi.specs.Told.{looked-as, listed-as, LookedC, ListedC};
+ghost use Rattle.capi.specs.Told.{looked_as, listed_as, LookedC, ListedC};
 
 use fences::listing::{Listed, outcomes};
 use fences::looking::{Looked, look};
@@ -24,7 +24,7 @@ pub struct FencesListed {
 }
 
 fn looked(answer: Looked) -> FencesLooked
-    ensures { result ≡ looked-as answer }
+    ensures { result ≡ looked_as answer }
 {
     let (kind, moves, fences) = match answer {
         Looked::Plain => (0, 0, 0),
@@ -42,7 +42,7 @@ fn looked(answer: Looked) -> FencesLooked
 }
 
 fn listed(answer: Listed) -> FencesListed
-    ensures { result ≡ listed-as answer }
+    ensures { result ≡ listed_as answer }
 {
     let (kind, outcomes, states) = match answer {
         Listed::Outcomes(outcomes, states) => (0, outcomes, states),

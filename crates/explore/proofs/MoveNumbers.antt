@@ -5,13 +5,13 @@ use Rattle.std.proofs.lemmas.Bool.{lt-ltb, le-ltb}
 use Rattle.model.specs.Code.{pick, Prog}
 use Rattle.model.specs.Machine.{St, Move, next, out, move}
 use Rattle.machine.specs.Post.{Stepped}
-use Rattle.explore.specs.Found.{move-of}
+use Rattle.explore.specs.Found.{move_of}
 
-pub move-next : (n m : ℕ) → m < n → move-of n m ≡ next m
-move-next n m h = ap (λ (b : Bool). pick b (next m) (out (m - n))) (lt-ltb m n h)
+pub move_next : (n m : ℕ) → m < n → move_of n m ≡ next m
+move_next n m h = ap (λ (b : Bool). pick b (next m) (out (m - n))) (lt-ltb m n h)
 
-pub move-out : (n m : ℕ) → n ≤ m → move-of n m ≡ out (m - n)
-move-out n m h = ap (λ (b : Bool). pick b (next m) (out (m - n))) (le-ltb m n h)
+pub move_out : (n m : ℕ) → n ≤ m → move_of n m ≡ out (m - n)
+move_out n m h = ap (λ (b : Bool). pick b (next m) (out (m - n))) (le-ltb m n h)
 
 -- a step by an equal move
 pub stepped_by : (p : Prog) (a b : Move) (ws : List ℕ) (r : Bool) (ws' : List ℕ) → a ≡ b → Stepped (λ s. move p s b) ws r ws' → Stepped (λ s. move p s a) ws r ws'

@@ -15,8 +15,8 @@ abbrev pub moves_of : ℕ → ℕ
 moves_of n = 2 * n
 
 -- move m of n threads: the next instruction of thread m; from n on, the oldest store of thread m - n going to memory
-abbrev pub move-of : ℕ → ℕ → Move
-move-of n m = pick (nat_lt m n) (next m) (out (m - n))
+abbrev pub move_of : ℕ → ℕ → Move
+move_of n m = pick (nat_lt m n) (next m) (out (m - n))
 
 -- the state that record i holds
 unfoldable pub state : ℕ → List ℕ → ℕ → St
@@ -24,12 +24,12 @@ state n q i = unpack n (rec q (width n) i)
 
 -- what an edge's word says: the move can't be made, or it leads to a state that is found
 abbrev pub Edge : Prog → List ℕ → ℕ → ℕ → ℕ → ℕ → Type 0
-Edge p q n i m zero = move p (state (length p) q i) (move-of (length p) m) ≡ none
-Edge p q n i m (suc j) = (j < n) × (move p (state (length p) q i) (move-of (length p) m) ≡ some (state (length p) q j))
+Edge p q n i m zero = move p (state (length p) q i) (move_of (length p) m) ≡ none
+Edge p q n i m (suc j) = (j < n) × (move p (state (length p) q i) (move_of (length p) m) ≡ some (state (length p) q j))
 
 -- n states are found: the first is where runs begin, each is come to by a run, and all are different
 pub record Found (p : Prog) (q : List ℕ) (n : ℕ) : Type 0 where
-  pub some-found : 0 < n
+  pub some_found : 0 < n
   pub first : state (length p) q 0 ≡ begin p
   pub good : (i : ℕ) → i < n → Packs (rec q (width (length p)) i) (state (length p) q i)
   pub come : (i : ℕ) → i < n → (ms : List Move) × (moves p (begin p) ms ≡ some (state (length p) q i))
@@ -68,10 +68,10 @@ abbrev pub Different : List St → Type 0
 Different [] = Unit {0}
 Different (s ∷ ss) = (Among s ss → ⊥) × Different ss
 
-abbrev pub All-come-to : Prog → List St → Type 0
-All-come-to p [] = Unit {0}
-All-come-to p (s ∷ ss) = ((ms : List Move) × (moves p (begin p) ms ≡ some s)) × All-come-to p ss
+abbrev pub AllComeTo : Prog → List St → Type 0
+AllComeTo p [] = Unit {0}
+AllComeTo p (s ∷ ss) = ((ms : List Move) × (moves p (begin p) ms ≡ some s)) × AllComeTo p ss
 
 -- runs come to more different states than 'most'
 abbrev pub Crowded : Prog → ℕ → Type 0
-Crowded p most = (q : List St) × All-come-to p q × Different q × (most < length q)
+Crowded p most = (q : List St) × AllComeTo p q × Different q × (most < length q)

@@ -8,7 +8,7 @@ pub record Larger (s : Shape) (limit n len : ℕ) (r : Shape) : Type 0 where
   pub width : r.width ≡ s.width
   pub room : n + 8 < r.room
   pub fits : homes r + (limit + 9) ≤ len
-  pub now-fits : places r ≤ len
+  pub now_fits : places r ≤ len
 
 -- a table for such a shape
 pub record Roomy (s : Shape) (limit : ℕ) (q : List ℕ) (since n : ℕ) (t : List ℕ) (r : Shape) : Type 0 where

@@ -69,8 +69,8 @@ abbrev pub Started : Prog → ℕ → List ℕ → List ℕ → Shape → Type 0
 Started p limit q t s = (g from : List ℕ) → Between p s limit q t g from 1 1 0
 
 -- where the level of state i ends: behind `since`, at which it is one level further
-abbrev pub Level-end : ℕ → ℕ → ℕ → ℕ → Type 0
-Level-end since n i r = ((i ≡ since) × (r ≡ n)) ⊎ ((i ≢ since) × (r ≡ since))
+abbrev pub LevelEnd : ℕ → ℕ → ℕ → ℕ → Type 0
+LevelEnd since n i r = ((i ≡ since) × (r ≡ n)) ⊎ ((i ≢ since) × (r ≡ since))
 
 -- all states are found, and where each was come to from; or there are more than may be
 pub record Told (p : Prog) (limit : ℕ) (q g from : List ℕ) (n : ℕ) : Type 0 where

@@ -5,7 +5,7 @@ ghost use Rattle.std.specs.Prelude.{◌≡◌, ◌+◌, ◌*◌, ◌^◌, ◌<�
 ghost use Rattle.program.specs.Meaning.{program};
 ghost use Rattle.lent.specs.Table.{homes};
 ghost use Rattle.explore.specs.Found.{width, moves_of};
-ghost use Rattle.explore.specs.Post.{Between, Started, Level-end, AllExplored};
+ghost use Rattle.explore.specs.Post.{Between, Started, LevelEnd, AllExplored};
 
 use crate::expand::expand;
 use crate::grow::make_room;
@@ -45,7 +45,7 @@ fn start(p: &Program, limit: usize, queue: &mut [u32], table: &mut [u32]) -> Sha
 
 // Where the level of state `i` ends: at `since`, or, if state `i` is the first of the next level, behind all states found.
 fn level_end(since: usize, n: usize, i: usize) -> usize
-    ensures { Level-end since n i result }
+    ensures { LevelEnd since n i result }
 {
     if i == since { n } else { since }
 }

@@ -3,7 +3,7 @@ ghost use Rattle.std.specs.Prelude.{◌≡◌, ◌+◌, ◌*◌, ◌<◌, length
 ghost use Rattle.model.specs.Machine.{move};
 ghost use Rattle.program.specs.Meaning.{program};
 ghost use Rattle.machine.specs.Post.{Holds, Stepped};
-ghost use Rattle.explore.specs.Found.{width, moves_of, move-of};
+ghost use Rattle.explore.specs.Found.{width, moves_of, move_of};
 
 use machine::moves::{next, out};
 use program::instructions::ThreadNumber;
@@ -15,7 +15,7 @@ pub fn step(p: &Program, m: usize, from: &[u32], to: &mut [u32]) -> bool
     requires same { length to.old ≡ length from.now }
     requires below { m < moves_of (length (program p.now)) }
     requires holds { Holds (program p.now) from.now }
-    ensures { Stepped (λ s. move (program p.now) s (move-of (length (program p.now)) m)) from.now result to.new }
+    ensures { Stepped (λ s. move (program p.now) s (move_of (length (program p.now)) m)) from.now result to.new }
 {
     if m < p.count {
         next(p, ThreadNumber(m), from, to)

@@ -2,114 +2,114 @@
 use Rattle.std.proofs.Common.{◌≡◌, ℕ, zero, suc, ◌+◌, ◌-◌, ◌*◌, ◌<◌, ◌≤◌, Bool, true, false, List, [], ◌∷◌, ◌++◌, length, take, drop, sym, refl, ap, ◌∙◌, subst, append_assoc, append-nil, mul-suc, add-one, arith, length-append}
 use Rattle.std.proofs.lemmas.List.{drop-drop}
 use Rattle.lent.specs.Records.{rec}
-use Rattle.lent.proofs.RecordLaws.{length-rec}
+use Rattle.lent.proofs.RecordLaws.{length_rec}
 use Rattle.model.specs.Code.{pick, Prog}
 use Rattle.model.specs.Machine.{At, St, all_done, outcome, regs_of}
 use Rattle.program.specs.declared.threads.Program.{Program}
 use Rattle.program.specs.Meaning.{program}
-use Rattle.program.proofs.WriteWords.{length-program}
-use Rattle.model.proofs.Levels.{run-threads}
-use Rattle.machine.specs.Packed.{Packs, Within, Within-ts}
+use Rattle.program.proofs.WriteWords.{length_program}
+use Rattle.model.proofs.Levels.{run_threads}
+use Rattle.machine.specs.Packed.{Packs, Within, WithinTs}
 use Rattle.explore.specs.Found.{width, state, Explored}
-use Rattle.explore.proofs.Edges.{words-within}
+use Rattle.explore.proofs.Edges.{words_within}
 use Rattle.fences.specs.Listing.{Row, text}
-use Rattle.fences.specs.Looks.{Done-from}
-use Rattle.fences.specs.Rows.{row_of, done_at, one-row, rows-from, Wrote}
+use Rattle.fences.specs.Looks.{DoneFrom}
+use Rattle.fences.specs.Rows.{row_of, done_at, one_row, rows_from, Wrote}
 
 -- a program's state has its words in the queue
 pub words_of : (p : Program) → 1 + 3 * p.count ≡ width (length (program p))
-words_of p = ap (λ n. 1 + 3 * n) (sym (length-program p))
+words_of p = ap (λ n. 1 + 3 * n) (sym (length_program p))
 
-pub record-within : (p : Program) (q : List ℕ) (n i : ℕ) → i < n → n * width (length (program p)) ≤ length q → i * (1 + 3 * p.count) + (1 + 3 * p.count) ≤ length q
-record-within p q n i h l =
-    subst (λ w. i * w + w ≤ length q) (sym (words_of p)) (words-within i n n (width (length (program p))) (length q) h (omega arith) l)
+pub record_within : (p : Program) (q : List ℕ) (n i : ℕ) → i < n → n * width (length (program p)) ≤ length q → i * (1 + 3 * p.count) + (1 + 3 * p.count) ≤ length q
+record_within p q n i h l =
+    subst (λ w. i * w + w ≤ length q) (sym (words_of p)) (words_within i n n (width (length (program p))) (length q) h (omega arith) l)
 
 pub record_is : (p : Program) (q r : List ℕ) (i : ℕ) → r ≡ rec q (1 + 3 * p.count) i → r ≡ rec q (width (length (program p))) i
 record_is p q r i e = e ∙ ap (λ w. rec q w i) (words_of p)
 
-pub record-long : (p : Program) (q r : List ℕ) (n i : ℕ) → i < n → n * width (length (program p)) ≤ length q → r ≡ rec q (1 + 3 * p.count) i → length r ≡ width (length (program p))
-record-long p q r n i h l e =
+pub record_long : (p : Program) (q r : List ℕ) (n i : ℕ) → i < n → n * width (length (program p)) ≤ length q → r ≡ rec q (1 + 3 * p.count) i → length r ≡ width (length (program p))
+record_long p q r n i h l e =
     let w = width (length (program p)) in
-    ap length (record_is p q r i e) ∙ length-rec q w i (words-within i n n w (length q) h (omega arith) l)
+    ap length (record_is p q r i e) ∙ length_rec q w i (words_within i n n w (length q) h (omega arith) l)
 
-pub record-packs : (p : Program) (q g r : List ℕ) (n i : ℕ) → Explored (program p) q g n → i < n → r ≡ rec q (1 + 3 * p.count) i → Packs r (state (length (program p)) q i)
-record-packs p q g r n i ex h e = subst (λ ws. Packs ws (state (length (program p)) q i)) (sym (record_is p q r i e)) (ex.found.good i h)
+pub record_packs : (p : Program) (q g r : List ℕ) (n i : ℕ) → Explored (program p) q g n → i < n → r ≡ rec q (1 + 3 * p.count) i → Packs r (state (length (program p)) q i)
+record_packs p q g r n i ex h e = subst (λ ws. Packs ws (state (length (program p)) q i)) (sym (record_is p q r i e)) (ex.found.good i h)
 
 module _ (p : Prog) (q cost : List ℕ) where
-  pub rows_step : (i n : ℕ) → i < n → rows-from p q cost i (n - i) ≡ pick (done_at p q i) (row_of p q cost i ∷ rows-from p q cost (i + 1) (n - (i + 1))) (rows-from p q cost (i + 1) (n - (i + 1)))
+  pub rows_step : (i n : ℕ) → i < n → rows_from p q cost i (n - i) ≡ pick (done_at p q i) (row_of p q cost i ∷ rows_from p q cost (i + 1) (n - (i + 1))) (rows_from p q cost (i + 1) (n - (i + 1)))
   rows_step i n h =
       let e : n - i ≡ suc (n - (i + 1)) = omega arith in
-      ap (λ k. rows-from p q cost i k) e
-      ∙ ap (λ j. pick (done_at p q i) (row_of p q cost i ∷ rows-from p q cost j (n - (i + 1))) (rows-from p q cost j (n - (i + 1)))) (sym (add-one i))
+      ap (λ k. rows_from p q cost i k) e
+      ∙ ap (λ j. pick (done_at p q i) (row_of p q cost i ∷ rows_from p q cost j (n - (i + 1))) (rows_from p q cost j (n - (i + 1)))) (sym (add-one i))
 
   not_done : (b : Bool) (r : Row) (rs : List Row) → (b ≡ true → ⊥) → pick b (r ∷ rs) rs ≡ rs
   not_done true r rs h = absurd (h refl)
   not_done false r rs h = refl
 
   -- states that are not finished have no rows, and finished ones a row each
-  skip : (n first k i : ℕ) → first ≡ i + k → first ≤ n → ((j : ℕ) → j < first → done_at p q j ≡ true → ⊥) → rows-from p q cost i (n - i) ≡ rows-from p q cost first (n - first)
-  skip n first zero i e h none_done = let z : first ≡ i = omega arith in ap (λ (j : ℕ). rows-from p q cost j (n - j)) (sym z)
+  skip : (n first k i : ℕ) → first ≡ i + k → first ≤ n → ((j : ℕ) → j < first → done_at p q j ≡ true → ⊥) → rows_from p q cost i (n - i) ≡ rows_from p q cost first (n - first)
+  skip n first zero i e h none_done = let z : first ≡ i = omega arith in ap (λ (j : ℕ). rows_from p q cost j (n - j)) (sym z)
   skip n first (suc k) i e h none_done =
       rows_step i n (omega arith)
-      ∙ not_done (done_at p q i) (row_of p q cost i) (rows-from p q cost (i + 1) (n - (i + 1))) (none_done i (omega arith))
+      ∙ not_done (done_at p q i) (row_of p q cost i) (rows_from p q cost (i + 1) (n - (i + 1))) (none_done i (omega arith))
       ∙ skip n first k (i + 1) (omega arith) h none_done
 
-  each_row : (n k i : ℕ) → i + k ≤ n → ((j : ℕ) → i ≤ j → j < n → done_at p q j ≡ true) → length (rows-from p q cost i k) ≡ k
+  each_row : (n k i : ℕ) → i + k ≤ n → ((j : ℕ) → i ≤ j → j < n → done_at p q j ≡ true) → length (rows_from p q cost i k) ≡ k
   each_row n zero i h all = refl
   each_row n (suc k) i h all =
       let rest = each_row n k (suc i) (omega arith) (λ j a b. all j (omega arith) b) in
-      ap (λ (b : Bool). length (pick b (row_of p q cost i ∷ rows-from p q cost (suc i) k) (rows-from p q cost (suc i) k))) (all i (omega arith) (omega arith)) ∙ ap suc rest
+      ap (λ (b : Bool). length (pick b (row_of p q cost i ∷ rows_from p q cost (suc i) k) (rows_from p q cost (suc i) k))) (all i (omega arith) (omega arith)) ∙ ap suc rest
 
-  pub rows-skip : (n first : ℕ) → Done-from p q n first → rows-from p q cost 0 n ≡ rows-from p q cost first (n - first)
-  rows-skip n first d = let z : n ≡ n - 0 = omega arith in ap (rows-from p q cost 0) z ∙ skip n first first 0 (omega arith) d.few d.before
+  pub rows_skip : (n first : ℕ) → DoneFrom p q n first → rows_from p q cost 0 n ≡ rows_from p q cost first (n - first)
+  rows_skip n first d = let z : n ≡ n - 0 = omega arith in ap (rows_from p q cost 0) z ∙ skip n first first 0 (omega arith) d.few d.before
 
-  pub rows-count : (n first : ℕ) → Done-from p q n first → n - first ≡ length (rows-from p q cost 0 n)
-  rows-count n first d = let few = d.few in sym (ap length (rows-skip n first d) ∙ each_row n (n - first) first (omega arith) d.done)
+  pub rows_count : (n first : ℕ) → DoneFrom p q n first → n - first ≡ length (rows_from p q cost 0 n)
+  rows_count n first d = let few = d.few in sym (ap length (rows_skip n first d) ∙ each_row n (n - first) first (omega arith) d.done)
 
-  text-pick : (b : Bool) (r : Row) (rs : List Row) → text (pick b (r ∷ rs) rs) ≡ text (pick b (r ∷ []) []) ++ text rs
-  text-pick true r rs = ap (λ z. z ++ text rs) (sym (append-nil (r.once ∷ r.outcome)))
-  text-pick false r rs = refl
+  text_pick : (b : Bool) (r : Row) (rs : List Row) → text (pick b (r ∷ rs) rs) ≡ text (pick b (r ∷ []) []) ++ text rs
+  text_pick true r rs = ap (λ z. z ++ text rs) (sym (append-nil (r.once ∷ r.outcome)))
+  text_pick false r rs = refl
 
   -- the text of the rows from i on, one state on
-  pub text-step : (i n : ℕ) → i < n → text (rows-from p q cost i (n - i)) ≡ text (one-row p q cost i) ++ text (rows-from p q cost (i + 1) (n - (i + 1)))
-  text-step i n h = ap text (rows_step i n h) ∙ text-pick (done_at p q i) (row_of p q cost i) (rows-from p q cost (i + 1) (n - (i + 1)))
+  pub text_step : (i n : ℕ) → i < n → text (rows_from p q cost i (n - i)) ≡ text (one_row p q cost i) ++ text (rows_from p q cost (i + 1) (n - (i + 1)))
+  text_step i n h = ap text (rows_step i n h) ∙ text_pick (done_at p q i) (row_of p q cost i) (rows_from p q cost (i + 1) (n - (i + 1)))
 
 -- how long an outcome is
-length-regs : (as₁ : List At) → Within-ts as₁ → length (regs_of as₁) ≡ 4 * length as₁
-length-regs [] h = refl
-length-regs (a ∷ as₁) h =
+length_regs : (as₁ : List At) → WithinTs as₁ → length (regs_of as₁) ≡ 4 * length as₁
+length_regs [] h = refl
+length_regs (a ∷ as₁) h =
     let e = length-append a.regs (regs_of as₁) in
     let f = h.0.four in
-    let i = length-regs as₁ h.1 in
+    let i = length_regs as₁ h.1 in
     omega arith
 
-pub length-outcome : (ws : List ℕ) (s : St) → Packs ws s → length (outcome s) ≡ 8 + 4 * length s.threads
-length-outcome ws s h =
+pub length_outcome : (ws : List ℕ) (s : St) → Packs ws s → length (outcome s) ≡ 8 + 4 * length s.threads
+length_outcome ws s h =
     let e = length-append (regs_of s.threads) s.mem in
     let f = h.0.eight in
-    let i = length-regs s.threads h.0.each in
+    let i = length_regs s.threads h.0.each in
     omega arith
 
 -- a row that is not written, and one that is
-pub wrote_none : (p : Prog) (q cost o : List ℕ) (i at : ℕ) → done_at p q i ≡ false → Wrote (text (one-row p q cost i)) o o at at
+pub wrote_none : (p : Prog) (q cost o : List ℕ) (i at : ℕ) → done_at p q i ≡ false → Wrote (text (one_row p q cost i)) o o at at
 wrote_none p q cost o i at d =
-    let e : text (one-row p q cost i) ≡ [] = ap (λ (b : Bool). text (pick b (row_of p q cost i ∷ []) [])) d in
+    let e : text (one_row p q cost i) ≡ [] = ap (λ (b : Bool). text (pick b (row_of p q cost i ∷ []) [])) d in
     let l = ap length e in
     record { long = omega arith; written = sym (ap (λ ws. take at o ++ ws) e ∙ append-nil (take at o)); behind = refl }
 
-pub wrote_one : (p : Prog) (q cost o o' : List ℕ) (i at end once : ℕ) → done_at p q i ≡ true → once ≡ (row_of p q cost i).once → end ≡ at + suc (length (outcome (state (length p) q i))) → take end o' ≡ take at o ++ (once ∷ outcome (state (length p) q i)) → drop end o' ≡ drop end o → Wrote (text (one-row p q cost i)) o o' at end
+pub wrote_one : (p : Prog) (q cost o o' : List ℕ) (i at end once : ℕ) → done_at p q i ≡ true → once ≡ (row_of p q cost i).once → end ≡ at + suc (length (outcome (state (length p) q i))) → take end o' ≡ take at o ++ (once ∷ outcome (state (length p) q i)) → drop end o' ≡ drop end o → Wrote (text (one_row p q cost i)) o o' at end
 wrote_one p q cost o o' i at end once d b l w r =
-    let e : text (one-row p q cost i) ≡ once ∷ outcome (state (length p) q i) =
+    let e : text (one_row p q cost i) ≡ once ∷ outcome (state (length p) q i) =
     ap (λ (b : Bool). text (pick b (row_of p q cost i ∷ []) [])) d ∙ append-nil ((row_of p q cost i).once ∷ outcome (state (length p) q i)) ∙ ap (λ z. z ∷ outcome (state (length p) q i)) (sym b) in
     let k = ap length e in
     record { long = omega arith; written = w ∙ ap (λ ws. take at o ++ ws) (sym e); behind = r }
 
 -- one row more
-pub wrote-more : (p : Prog) (q cost o o₁ o₂ : List ℕ) (i n at end : ℕ) → i < n → take at o₁ ++ text (rows-from p q cost i (n - i)) ≡ text (rows-from p q cost 0 n) → Wrote (text (one-row p q cost i)) o₁ o₂ at end → take end o₂ ++ text (rows-from p q cost (i + 1) (n - (i + 1))) ≡ text (rows-from p q cost 0 n)
-wrote-more p q cost o o₁ o₂ i n at end h e w =
-    ap (λ z. z ++ text (rows-from p q cost (i + 1) (n - (i + 1)))) w.written
-    ∙ append_assoc (take at o₁) (text (one-row p q cost i)) (text (rows-from p q cost (i + 1) (n - (i + 1))))
-    ∙ ap (λ z. take at o₁ ++ z) (sym (text-step p q cost i n h))
+pub wrote_more : (p : Prog) (q cost o o₁ o₂ : List ℕ) (i n at end : ℕ) → i < n → take at o₁ ++ text (rows_from p q cost i (n - i)) ≡ text (rows_from p q cost 0 n) → Wrote (text (one_row p q cost i)) o₁ o₂ at end → take end o₂ ++ text (rows_from p q cost (i + 1) (n - (i + 1))) ≡ text (rows_from p q cost 0 n)
+wrote_more p q cost o o₁ o₂ i n at end h e w =
+    ap (λ z. z ++ text (rows_from p q cost (i + 1) (n - (i + 1)))) w.written
+    ∙ append_assoc (take at o₁) (text (one_row p q cost i)) (text (rows_from p q cost (i + 1) (n - (i + 1))))
+    ∙ ap (λ z. take at o₁ ++ z) (sym (text_step p q cost i n h))
     ∙ e
 
 -- what lies behind all rows stays
@@ -120,29 +120,29 @@ behind_more o o₁ o₂ ws at end all w h e =
     ap (λ k. drop k o₂) s ∙ sym (drop-drop (all - end) end o₂) ∙ ap (drop (all - end)) w.behind ∙ drop-drop (all - end) end o₁ ∙ ap (λ k. drop k o₁) (sym s) in
     a ∙ e
 
-pub length-one : (p : Prog) (q cost : List ℕ) (i : ℕ) → done_at p q i ≡ true → length (text (one-row p q cost i)) ≡ suc (length (outcome (state (length p) q i)))
-length-one p q cost i d =
+pub length_one : (p : Prog) (q cost : List ℕ) (i : ℕ) → done_at p q i ≡ true → length (text (one_row p q cost i)) ≡ suc (length (outcome (state (length p) q i)))
+length_one p q cost i d =
     ap (λ (b : Bool). length (text (pick b (row_of p q cost i ∷ []) []))) d ∙ ap length (append-nil ((row_of p q cost i).once ∷ outcome (state (length p) q i)))
 
 -- an outcome of a state found
 pub length_found : (p : Program) (q g : List ℕ) (n i : ℕ) → Explored (program p) q g n → i < n → length (outcome (state (length (program p)) q i)) ≡ 8 + 4 * p.count
 length_found p q g n i ex h =
     let (ms, r) = ex.found.come i h in
-    let l = run-threads (program p) ms (state (length (program p)) q i) r in
-    let e = length-outcome (rec q (width (length (program p))) i) (state (length (program p)) q i) (ex.found.good i h) in
-    let k = length-program p in
+    let l = run_threads (program p) ms (state (length (program p)) q i) r in
+    let e = length_outcome (rec q (width (length (program p))) i) (state (length (program p)) q i) (ex.found.good i h) in
+    let k = length_program p in
     omega arith
 
-length-rows : (p : Program) (q g cost : List ℕ) (n k i : ℕ) → Explored (program p) q g n → i + k ≤ n → length (text (rows-from (program p) q cost i k)) ≡ (9 + 4 * p.count) * length (rows-from (program p) q cost i k)
-length-rows p q g cost n zero i ex h = omega arith
-length-rows p q g cost n (suc k) i ex h =
-    let rest = length-rows p q g cost n k (suc i) ex (omega arith) in
-    by_row (done_at (program p) q i) (row_of (program p) q cost i) (rows-from (program p) q cost (suc i) k) (length_found p q g n i ex (omega arith)) rest
+length_rows : (p : Program) (q g cost : List ℕ) (n k i : ℕ) → Explored (program p) q g n → i + k ≤ n → length (text (rows_from (program p) q cost i k)) ≡ (9 + 4 * p.count) * length (rows_from (program p) q cost i k)
+length_rows p q g cost n zero i ex h = omega arith
+length_rows p q g cost n (suc k) i ex h =
+    let rest = length_rows p q g cost n k (suc i) ex (omega arith) in
+    by_row (done_at (program p) q i) (row_of (program p) q cost i) (rows_from (program p) q cost (suc i) k) (length_found p q g n i ex (omega arith)) rest
   where
     by_row : (b : Bool) (r : Row) (rs : List Row) → length r.outcome ≡ 8 + 4 * p.count → length (text rs) ≡ (9 + 4 * p.count) * length rs → length (text (pick b (r ∷ rs) rs)) ≡ (9 + 4 * p.count) * length (pick b (r ∷ rs) rs)
     by_row true r rs l e = let a = length-append (r.once ∷ r.outcome) (text rs) in let m = mul-suc (9 + 4 * p.count) (length rs) in omega arith
     by_row false r rs l e = e
 
 -- how many words all rows take
-pub length-all : (p : Program) (q g cost : List ℕ) (n : ℕ) → Explored (program p) q g n → length (text (rows-from (program p) q cost 0 n)) ≡ (9 + 4 * p.count) * length (rows-from (program p) q cost 0 n)
-length-all p q g cost n ex = length-rows p q g cost n n 0 ex (omega arith)
+pub length_all : (p : Program) (q g cost : List ℕ) (n : ℕ) → Explored (program p) q g n → length (text (rows_from (program p) q cost 0 n)) ≡ (9 + 4 * p.count) * length (rows_from (program p) q cost 0 n)
+length_all p q g cost n ex = length_rows p q g cost n n 0 ex (omega arith)

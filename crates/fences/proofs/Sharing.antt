@@ -8,23 +8,23 @@ use Rattle.fences.specs.Sizes.{Shares}
 pub shares : (n words limit : ℕ) → n ≤ 4 → 65536 ≤ words → limit * (5 * n + 4) ≤ words - 8192 → 0 < limit → limit < 4294967296 → ((m : ℕ) → m < 4294967296 → 65536 + 128 * (m + 1) ≤ words → m ≤ limit) → Shares n words limit
 shares n words limit few lent h some told most = record { some_fit = some; told = told; most = most; fits = omega arith }
 
-fits-at-least : (n words : ℕ) → n ≤ 4 → (m : ℕ) → 65536 + 128 * (m + 1) ≤ words → m ≤ (words - 8192) / (5 * n + 4)
-fits-at-least n words few m h =
+fits_at_least : (n words : ℕ) → n ≤ 4 → (m : ℕ) → 65536 + 128 * (m + 1) ≤ words → m ≤ (words - 8192) / (5 * n + 4)
+fits_at_least n words few m h =
     let k : 5 * n + 4 ≤ 24 = omega arith in
     let a = mul-le-mul_left m k in
     le-div m (words - 8192) (5 * n + 4) (omega arith) (omega arith)
 
 -- as many as fit
-pub shares-all : (n words : ℕ) → n ≤ 4 → 65536 ≤ words → (words - 8192) / (5 * n + 4) < 4294967295 → Shares n words ((words - 8192) / (5 * n + 4))
-shares-all n words few lent h =
+pub shares_all : (n words : ℕ) → n ≤ 4 → 65536 ≤ words → (words - 8192) / (5 * n + 4) < 4294967295 → Shares n words ((words - 8192) / (5 * n + 4))
+shares_all n words few lent h =
     let q = (words - 8192) / (5 * n + 4) in
     let a = div-add-mod' (words - 8192) (5 * n + 4) in
     let b = le-div 1 (words - 8192) (5 * n + 4) (omega arith) (omega arith) in
-    shares n words q few lent (omega arith) (omega arith) (omega arith) (λ m s l. fits-at-least n words few m l)
+    shares n words q few lent (omega arith) (omega arith) (omega arith) (λ m s l. fits_at_least n words few m l)
 
 -- where more states fit than a u32 can count, as many as it can
-pub shares-most : (n words : ℕ) → n ≤ 4 → 65536 ≤ words → 4294967295 ≤ (words - 8192) / (5 * n + 4) → Shares n words 4294967295
-shares-most n words few lent h =
+pub shares_most : (n words : ℕ) → n ≤ 4 → 65536 ≤ words → 4294967295 ≤ (words - 8192) / (5 * n + 4) → Shares n words 4294967295
+shares_most n words few lent h =
     let q = (words - 8192) / (5 * n + 4) in
     let a = div-add-mod' (words - 8192) (5 * n + 4) in
     let b = mul-le-mul_right (5 * n + 4) h in

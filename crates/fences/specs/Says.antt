@@ -4,14 +4,14 @@ use Rattle.std.proofs.Math.Option.{some}
 use Rattle.model.specs.Code.{Prog, Reads}
 use Rattle.model.specs.Machine.{St, Move, moves, begin}
 use Rattle.model.specs.Theorems.{Theorems}
-use Rattle.explore.specs.Found.{Among, Different, All-come-to, Crowded}
+use Rattle.explore.specs.Found.{Among, Different, AllComeTo, Crowded}
 use Rattle.fences.specs.declared.listing.Listed.{Listed}
 use Rattle.fences.specs.declared.listing.Listed.TheVariants as listed
 use Rattle.fences.specs.Listing.{Row, text, Lists}
 
 -- runs come to exactly so many states
 abbrev pub States : Prog → ℕ → Type 0
-States p n = (q : List St) × All-come-to p q × Different q × ((ms : List Move) (s : St) → moves p (begin p) ms ≡ some s → Among s q) × (n ≡ length q)
+States p n = (q : List St) × AllComeTo p q × Different q × ((ms : List Move) (s : St) → moves p (begin p) ms ≡ some s → Among s q) × (n ≡ length q)
 
 -- what is said of a program p whose states are found
 abbrev pub ListedFound : Prog → List ℕ → List ℕ → Listed → Type 0

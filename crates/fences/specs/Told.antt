@@ -4,12 +4,12 @@ use Rattle.model.specs.Machine.{Move, next, out}
 use Rattle.model.specs.Fences.{Spot}
 
 -- a word for each move: the thread whose instruction is next, or 4 more than the thread whose oldest store goes to memory
-abbrev pub text-ms : List Move → List ℕ
-text-ms [] = []
-text-ms (next n ∷ ms) = n ∷ text-ms ms
-text-ms (out n ∷ ms) = (4 + n) ∷ text-ms ms
+abbrev pub text_ms : List Move → List ℕ
+text_ms [] = []
+text_ms (next n ∷ ms) = n ∷ text_ms ms
+text_ms (out n ∷ ms) = (4 + n) ∷ text_ms ms
 
 -- two words for each spot: its thread, and the instruction that the fence stands before
-abbrev pub text-ss : List Spot → List ℕ
-text-ss [] = []
-text-ss (s ∷ ss) = s.thread ∷ s.index ∷ text-ss ss
+abbrev pub text_ss : List Spot → List ℕ
+text_ss [] = []
+text_ss (s ∷ ss) = s.thread ∷ s.index ∷ text_ss ss

@@ -2,12 +2,12 @@
 // on. A list that misses a clause is skipped: a clause is what a bad run passes while something waits, so a list without
 // any of it leaves that run. What meets all clauses is looked at; a failed look gives one clause more.
 ghost use Rattle.std.specs.Prelude.{◌≡◌, ℕ, ◌+◌, ◌-◌, ◌*◌, ◌^◌, ◌<◌, ◌≤◌, List, length, take};
-ghost use Rattle.hitting.specs.Post.{Next-or-none};
+ghost use Rattle.hitting.specs.Post.{NextOrNone};
 ghost use Rattle.model.specs.Fences.{Fewest as FewestFences};
 ghost use Rattle.program.specs.Meaning.{program};
-ghost use Rattle.spots.specs.Masks.{every-spot, spots};
-ghost use Rattle.fences.specs.Searching.{Learnt-masks, Earlier-fail};
-ghost use Rattle.fences.specs.Fewest.{Ground, Tried, Kept-or-not, Gone-through};
+ghost use Rattle.spots.specs.Masks.{every_spot, spots};
+ghost use Rattle.fences.specs.Searching.{LearntMasks, EarlierFail};
+ghost use Rattle.fences.specs.Fewest.{Ground, Tried, KeptOrNot, GoneThrough};
 
 use crate::looks::{learn, look_at};
 use hitting::candidates::next_candidate;
@@ -17,7 +17,7 @@ use spots::every_spot;
 // The next list of so many fences that meets the first `len` clauses.
 fn candidate(clauses: &[u32], len: usize, among: u32, bits: u32, upto: u32) -> Option<u32>
     requires { len ≤ length clauses.now }
-    ensures { Next-or-none (take len clauses.now) among bits upto result }
+    ensures { NextOrNone (take len clauses.now) among bits upto result }
 {
     next_candidate(&clauses[0..len], among, bits, upto)
 }
@@ -25,7 +25,7 @@ fn candidate(clauses: &[u32], len: usize, among: u32, bits: u32, upto: u32) -> O
 // Keeps a clause behind the others. Where there is no room it is left out: it would only have saved looks.
 fn keep(clauses: &mut [u32], len: usize, clause: u32) -> usize
     requires { len ≤ length clauses.old }
-    ensures { Kept-or-not clauses.old len clause clauses.new result }
+    ensures { KeptOrNot clauses.old len clause clauses.new result }
 {
     if len >= clauses.len() {
         return len;
@@ -81,11 +81,11 @@ fn lists_of<'x>(
     requires in_cost { n ≤ length cost.old }
     requires in_from { n ≤ length from.old }
     requires room { length path.old ≡ 64 }
-    requires among { among ≡ every-spot (program p.now) }
+    requires among { among ≡ every_spot (program p.now) }
     requires few { len ≤ length clauses.old }
-    requires learnt { Learnt-masks (program p.now) clauses.old len }
-    requires earlier { Earlier-fail (program p.now) bits (2 ^ 32 - 1) }
-    ensures { Gone-through (program p.now) bits clauses.new result.0 result.1 }
+    requires learnt { LearntMasks (program p.now) clauses.old len }
+    requires earlier { EarlierFail (program p.now) bits (2 ^ 32 - 1) }
+    ensures { GoneThrough (program p.now) bits clauses.new result.0 result.1 }
 {
     let mut known = len;
     let mut upto = 0xffff_ffff;

@@ -4,7 +4,7 @@ ghost use Rattle.lent.specs.Records.{rec};
 ghost use Rattle.program.specs.Meaning.{program};
 ghost use Rattle.explore.specs.Found.{width, Explored};
 ghost use Rattle.fences.specs.Rows.{done_at};
-ghost use Rattle.fences.specs.Looks.{Done-from};
+ghost use Rattle.fences.specs.Looks.{DoneFrom};
 
 use once::finished::finished;
 use program::threads::Program;
@@ -32,7 +32,7 @@ fn is_done(p: &Program, n: usize, queue: &[u32], i: usize) -> bool
 pub fn first_done(p: &Program, n: usize, queue: &[u32]) -> usize
     requires explored { (g : List ℕ) × Explored (program p.now) queue.now g n }
     requires held { n * width (length (program p.now)) ≤ length queue.now }
-    ensures { Done-from (program p.now) queue.now n result }
+    ensures { DoneFrom (program p.now) queue.now n result }
 {
     let mut first = n;
     'down: while first > 0 {

@@ -3,8 +3,8 @@ ghost use Rattle.std.specs.Prelude.{◌≡◌, ℕ, ◌+◌, ◌*◌, ◌<◌, �
 ghost use Rattle.program.specs.Meaning.{program};
 ghost use Rattle.explore.specs.Found.{width, moves_of, Explored};
 ghost use Rattle.fences.specs.Listing.{text};
-ghost use Rattle.fences.specs.Looks.{Done-from};
-ghost use Rattle.fences.specs.Rows.{one-row, rows-from, Wrote};
+ghost use Rattle.fences.specs.Looks.{DoneFrom};
+ghost use Rattle.fences.specs.Rows.{one_row, rows_from, Wrote};
 ghost use Rattle.fences.specs.Says.{ListedFound, ListedOf, ListedPost};
 
 use crate::found::{first_done, record};
@@ -40,8 +40,8 @@ fn write_row(
     requires held { n * width (length (program p.now)) ≤ length queue.now }
     requires below { i < n }
     requires marked { n ≤ length cost.now }
-    requires room { at + length (text (one-row (program p.now) queue.now cost.now i)) ≤ length out.old }
-    ensures { Wrote (text (one-row (program p.now) queue.now cost.now i)) out.old out.new at result }
+    requires room { at + length (text (one_row (program p.now) queue.now cost.now i)) ≤ length out.old }
+    ensures { Wrote (text (one_row (program p.now) queue.now cost.now i)) out.old out.new at result }
 {
     let words = 1 + 3 * p.count;
     let state = record(queue, words, i);
@@ -58,9 +58,9 @@ fn write_rows(p: &Program, queue: &[u32], cost: &[u32], first: usize, n: usize, 
     requires explored { (g : List ℕ) × Explored (program p.now) queue.now g n }
     requires held { n * width (length (program p.now)) ≤ length queue.now }
     requires marked { n ≤ length cost.now }
-    requires done { Done-from (program p.now) queue.now n first }
-    requires room { length (text (rows-from (program p.now) queue.now cost.now 0 n)) ≤ length out.old }
-    ensures { Wrote (text (rows-from (program p.now) queue.now cost.now 0 n)) out.old out.new 0 (length (text (rows-from (program p.now) queue.now cost.now 0 n))) }
+    requires done { DoneFrom (program p.now) queue.now n first }
+    requires room { length (text (rows_from (program p.now) queue.now cost.now 0 n)) ≤ length out.old }
+    ensures { Wrote (text (rows_from (program p.now) queue.now cost.now 0 n)) out.old out.new 0 (length (text (rows_from (program p.now) queue.now cost.now 0 n))) }
 {
     let mut at = 0;
     for i in first..n {

@@ -3,8 +3,8 @@
 ghost use Rattle.std.specs.Prelude.{◌≡◌, ℕ, ◌+◌, ◌*◌, ◌<◌, ◌≤◌, true, List, length, Some};
 ghost use Rattle.program.specs.Meaning.{program};
 ghost use Rattle.explore.specs.Found.{width, moves_of, Explored};
-ghost use Rattle.once.specs.Once.{Marks-once};
-ghost use Rattle.fences.specs.Looks.{Done-from, Chosen, Apart, Bad, Looked, Learned};
+ghost use Rattle.once.specs.Once.{MarksOnce};
+ghost use Rattle.fences.specs.Looks.{DoneFrom, Chosen, Apart, Bad, Looked, Learned};
 
 use graph::search::search;
 use graph::walks::walk_back;
@@ -94,8 +94,8 @@ pub fn look_at<'x>(
     from: &mut [u32],
 ) -> Option<usize>
     requires explored { Explored (program p.now) queue.now edges.now n }
-    requires marks { Marks-once (program p.now) queue.now n once.now }
-    requires done { Done-from (program p.now) queue.now n first }
+    requires marks { MarksOnce (program p.now) queue.now n once.now }
+    requires done { DoneFrom (program p.now) queue.now n first }
     requires held { n * width (length (program p.now)) ≤ length queue.now }
     requires kept { n * moves_of (length (program p.now)) ≤ length edges.now }
     requires in_once { n ≤ length once.now }

@@ -6,13 +6,13 @@ use Rattle.graph.specs.Walks.{Leads}
 use Rattle.graph.specs.Search.{Marked, Steps, Grown}
 
 -- no edge
-pub grown-none : (edge : ℕ → Type 0) (i : ℕ) (c f : List ℕ) → ((k : ℕ) → edge k → ⊥) → Grown edge i c f c f
-grown-none edge i c f never =
+pub grown_none : (edge : ℕ → Type 0) (i : ℕ) (c f : List ℕ) → ((k : ℕ) → edge k → ⊥) → Grown edge i c f c f
+grown_none edge i c f never =
     record { marks = λ k h. h; hit = λ k e. absurd (never k e); kept = λ k h. inl (h, refl); same = λ k n. (refl, refl) }
 
 -- some edges, and then others
-pub grown-then : (one two both : ℕ → Type 0) (i : ℕ) (c f c' f' c'' f'' : List ℕ) → ((k : ℕ) → one k → both k) → ((k : ℕ) → two k → both k) → ((k : ℕ) → both k → one k ⊎ two k) → Grown one i c f c' f' → Grown two i c' f' c'' f'' → Grown both i c f c'' f''
-grown-then one two both i c f c' f' c'' f'' l r split g h =
+pub grown_then : (one two both : ℕ → Type 0) (i : ℕ) (c f c' f' c'' f'' : List ℕ) → ((k : ℕ) → one k → both k) → ((k : ℕ) → two k → both k) → ((k : ℕ) → both k → one k ⊎ two k) → Grown one i c f c' f' → Grown two i c' f' c'' f'' → Grown both i c f c'' f''
+grown_then one two both i c f c' f' c'' f'' l r split g h =
     record {
       marks = λ k m. h.marks k (g.marks k m);
       hit = λ k e. elim (split k e) [ inl a ↦ h.marks k (g.hit k a) | inr b ↦ h.hit k b ];
@@ -29,9 +29,9 @@ grown-then one two both i c f c' f' c'' f'' l r split g h =
     }
 
 -- the edges of the moves below m, and then of m
-pub leads-more : (next : ℕ → ℕ → ℕ) (m i : ℕ) (c f c' f' c'' f'' : List ℕ) (t : ℕ) → t ≡ next i m → Grown (Leads next m i) i c f c' f' → Grown (λ k. t ≡ suc k) i c' f' c'' f'' → Grown (Leads next (m + 1) i) i c f c'' f''
-leads-more next m i c f c' f' c'' f'' t is g h =
-    grown-then (Leads next m i) (λ k. t ≡ suc k) (Leads next (m + 1) i) i c f c' f' c'' f''
+pub leads_more : (next : ℕ → ℕ → ℕ) (m i : ℕ) (c f c' f' c'' f'' : List ℕ) (t : ℕ) → t ≡ next i m → Grown (Leads next m i) i c f c' f' → Grown (λ k. t ≡ suc k) i c' f' c'' f'' → Grown (Leads next (m + 1) i) i c f c'' f''
+leads_more next m i c f c' f' c'' f'' t is g h =
+    grown_then (Leads next m i) (λ k. t ≡ suc k) (Leads next (m + 1) i) i c f c' f' c'' f''
     (λ k e. (e.0, let l = e.1 in omega arith, e.2))
     (λ k e. (m, omega arith, sym is ∙ e))
     (λ k e. elim (cases_lt e.0 m) [ inl l ↦ inl (e.0, l, e.2) | inr l ↦ inr (is ∙ last k e l) ])
@@ -46,8 +46,8 @@ steps_of can next moves n i c f a h p q =
     record {
       may = λ m l. a.may i m h l;
       up = λ m j l e. a.up i m j h l e;
-      in-cost = λ m j l e. let w = a.within i m j h l e in omega arith;
-      in-from = λ m j l e. let w = a.within i m j h l e in omega arith;
+      in_cost = λ m j l e. let w = a.within i m j h l e in omega arith;
+      in_from = λ m j l e. let w = a.within i m j h l e in omega arith;
     }
 
 -- one move m of a node, which leads to t
@@ -56,17 +56,17 @@ module _ (can : ℕ → Type 0) (next : ℕ → ℕ) (moves i : ℕ) (c f : List
   ahead_of zero e p = omega arith
   ahead_of (suc j) e p = let u = s.up m j h (sym e) in omega arith
 
-  pub within-cost : (t : ℕ) → t ≡ next m → t ≤ length c
-  within-cost zero e = omega arith
-  within-cost (suc j) e = let u = s.in-cost m j h (sym e) in omega arith
+  pub within_cost : (t : ℕ) → t ≡ next m → t ≤ length c
+  within_cost zero e = omega arith
+  within_cost (suc j) e = let u = s.in_cost m j h (sym e) in omega arith
 
-  pub within-from : (t : ℕ) → t ≡ next m → t ≤ length f
-  within-from zero e = omega arith
-  within-from (suc j) e = let u = s.in-from m j h (sym e) in omega arith
+  pub within_from : (t : ℕ) → t ≡ next m → t ≤ length f
+  within_from zero e = omega arith
+  within_from (suc j) e = let u = s.in_from m j h (sym e) in omega arith
 
 -- all moves of a node that was come to
-pub leads-all : (next : ℕ → ℕ → ℕ) (moves m i : ℕ) (c f c' f' : List ℕ) → m ≡ moves → Marked c i → Grown (Leads next m i) i c f c' f' → Grown (λ k. Marked c i × Leads next moves i k) i c f c' f'
-leads-all next moves m i c f c' f' e p g =
+pub leads_all : (next : ℕ → ℕ → ℕ) (moves m i : ℕ) (c f c' f' : List ℕ) → m ≡ moves → Marked c i → Grown (Leads next m i) i c f c' f' → Grown (λ k. Marked c i × Leads next moves i k) i c f c' f'
+leads_all next moves m i c f c' f' e p g =
     record {
       marks = g.marks;
       hit = λ k l. g.hit k (rw e l.1);

@@ -37,8 +37,8 @@ pub record Begun (n : ℕ) (was cost : List ℕ) : Type 0 where
 pub record Steps (can : ℕ → Type 0) (next : ℕ → ℕ) (moves i : ℕ) (cost from : List ℕ) : Type 0 where
   pub may : (m : ℕ) → m < moves → can m
   pub up : (m j : ℕ) → m < moves → next m ≡ suc j → i < j
-  pub in-cost : (m j : ℕ) → m < moves → next m ≡ suc j → j < length cost
-  pub in-from : (m j : ℕ) → m < moves → next m ≡ suc j → j < length from
+  pub in_cost : (m j : ℕ) → m < moves → next m ≡ suc j → j < length cost
+  pub in_from : (m j : ℕ) → m < moves → next m ≡ suc j → j < length from
 
 -- gone along some edges of node i: those that they lead to are marked, by these edges or earlier, and no word of another node
 -- has changed

@@ -11,18 +11,18 @@ abbrev pub place : ℕ → ℕ → ℕ
 place n k = 31 - (8 * n + k)
 
 -- has the spot a bit
-abbrev pub has-place : ℕ → ℕ → Bool
-has-place n k = nat_lt n 4 && nat_lt k 8
+abbrev pub has_place : ℕ → ℕ → Bool
+has_place n k = nat_lt n 4 && nat_lt k 8
 
 -- the spot by itself as a number; 0 where it has no bit
-unfoldable pub bit-of : ℕ → ℕ → ℕ
-bit-of n k = pick (has-place n k) (2 ^ place n k) 0
+unfoldable pub bit_of : ℕ → ℕ → ℕ
+bit_of n k = pick (has_place n k) (2 ^ place n k) 0
 
 -- a guard at each spot whose bit is set
 unfoldable pub masked : ℕ → Guard
-masked g n k = has-place n k && bit g (place n k) == 1
+masked g n k = has_place n k && bit g (place n k) == 1
 
 -- the spots of a list as a number
 abbrev pub mask : List Spot → ℕ
 mask [] = 0
-mask (s ∷ ss) = bit_or (bit-of s.thread s.index) (mask ss)
+mask (s ∷ ss) = bit_or (bit_of s.thread s.index) (mask ss)

@@ -1,13 +1,13 @@
 // The spot at which a move does an instruction while something of its thread waits, as a bit.
 ghost use Rattle.std.specs.Prelude.{◌≡◌, ◌+◌, ◌*◌, ◌/◌, ◌%◌, ◌<◌, ◌≤◌, length};
 ghost use Rattle.explore.specs.Found.{width};
-ghost use Rattle.guard.specs.Masks.{bit-of};
-ghost use Rattle.guard.specs.Rules.{word-bit, hit-bits};
+ghost use Rattle.guard.specs.Masks.{bit_of};
+ghost use Rattle.guard.specs.Rules.{word_bit, hit_bits};
 
 // The bit of the spot before instruction `pc` of a thread; none past the eighth.
 fn bit_at(thread: usize, pc: u32) -> u32
     requires { thread < 4 }
-    ensures { result ≡ bit-of thread pc }
+    ensures { result ≡ bit_of thread pc }
 {
     if pc >= 8 {
         return 0;
@@ -18,7 +18,7 @@ fn bit_at(thread: usize, pc: u32) -> u32
 // What the next instruction of a thread passes, by the thread's first word: nothing where no store waits.
 fn hit_by_word(thread: usize, word: u32) -> u32
     requires { thread < 4 }
-    ensures { result ≡ word-bit thread (word / 65536 % 16) (word / 1048576) }
+    ensures { result ≡ word_bit thread (word / 65536 % 16) (word / 1048576) }
 {
     if word >> 20 == 0 {
         return 0;
@@ -30,7 +30,7 @@ fn hit_by_word(thread: usize, word: u32) -> u32
 pub fn hit(threads: usize, queue: &[u32], node: usize, by: usize) -> u32
     requires few { threads ≤ 4 }
     requires words { node * width threads + width threads ≤ length queue.now }
-    ensures { result ≡ hit-bits threads queue.now node by }
+    ensures { result ≡ hit_bits threads queue.now node by }
 {
     if by >= threads {
         return 0;

@@ -3,14 +3,14 @@ use Rattle.std.specs.Prelude.{◌≡◌, ℕ, suc, ◌<◌, ◌≤◌, List, len
 use Rattle.hitting.specs.Masks.{Within, Meets, Misses}
 
 -- the clause k is the first that x misses; without k it meets all
-pub record First-missed (cs : List ℕ) (x k : ℕ) : Type 0 where
+pub record FirstMissed (cs : List ℕ) (x k : ℕ) : Type 0 where
   pub inside : k < length cs
   pub missed : bit_and x (slice_index cs k) ≡ 0
   pub before : (j : ℕ) → j < k → 0 < bit_and x (slice_index cs j)
 
-abbrev pub Missed-or-met : List ℕ → ℕ → Option ℕ → Type 0
-Missed-or-met cs x (Some k) = First-missed cs x k
-Missed-or-met cs x None = Meets cs x
+abbrev pub MissedOrMet : List ℕ → ℕ → Option ℕ → Type 0
+MissedOrMet cs x (Some k) = FirstMissed cs x k
+MissedOrMet cs x None = Meets cs x
 
 -- y is the greatest set within u up to m
 pub record Greatest (u m y : ℕ) : Type 0 where
@@ -31,9 +31,9 @@ pub record Passed (u mark x y : ℕ) : Type 0 where
   pub within : Within y u
   pub missed : (z : ℕ) → y < z → z ≤ x → Within z u → bit_and z mark ≡ 0
 
-abbrev pub Passed-or-none : ℕ → ℕ → ℕ → Option ℕ → Type 0
-Passed-or-none u mark x (Some y) = Passed u mark x y
-Passed-or-none u mark x None = (z : ℕ) → z ≤ x → Within z u → bit_and z mark ≡ 0
+abbrev pub PassedOrNone : ℕ → ℕ → ℕ → Option ℕ → Type 0
+PassedOrNone u mark x (Some y) = Passed u mark x y
+PassedOrNone u mark x None = (z : ℕ) → z ≤ x → Within z u → bit_and z mark ≡ 0
 
 -- a set within u with n bits that meets every clause
 pub record Candidate (cs : List ℕ) (u n x : ℕ) : Type 0 where
@@ -50,9 +50,9 @@ pub record Unmet (cs : List ℕ) (u n x mark : ℕ) : Type 0 where
   pub missed : bit_and x mark ≡ 0
   pub needed : (z : ℕ) → bit_and z mark ≡ 0 → Fails cs u n z
 
-abbrev pub Unmet-or-candidate : List ℕ → ℕ → ℕ → ℕ → Option ℕ → Type 0
-Unmet-or-candidate cs u n x (Some mark) = Unmet cs u n x mark
-Unmet-or-candidate cs u n x None = Candidate cs u n x
+abbrev pub UnmetOrCandidate : List ℕ → ℕ → ℕ → ℕ → Option ℕ → Type 0
+UnmetOrCandidate cs u n x (Some mark) = Unmet cs u n x mark
+UnmetOrCandidate cs u n x None = Candidate cs u n x
 
 -- y is the greatest candidate up to m; without y there is none
 pub record Next (cs : List ℕ) (u n m y : ℕ) : Type 0 where
@@ -60,6 +60,6 @@ pub record Next (cs : List ℕ) (u n m y : ℕ) : Type 0 where
   pub candidate : Candidate cs u n y
   pub first : (z : ℕ) → y < z → z ≤ m → Fails cs u n z
 
-abbrev pub Next-or-none : List ℕ → ℕ → ℕ → ℕ → Option ℕ → Type 0
-Next-or-none cs u n m (Some y) = Next cs u n m y
-Next-or-none cs u n m None = (z : ℕ) → z ≤ m → Fails cs u n z
+abbrev pub NextOrNone : List ℕ → ℕ → ℕ → ℕ → Option ℕ → Type 0
+NextOrNone cs u n m (Some y) = Next cs u n m y
+NextOrNone cs u n m None = (z : ℕ) → z ≤ m → Fails cs u n z

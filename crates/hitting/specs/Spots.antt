@@ -3,23 +3,23 @@
 use Rattle.std.specs.Prelude.{◌≡◌, ℕ, zero, suc, ◌+◌, ◌-◌, ◌/◌, ◌%◌, ◌^◌, ◌<◌, ◌≤◌, ◌⊎◌, List, [], ◌∷◌}
 
 -- the set that has these spots
-abbrev pub mask-of : List ℕ → ℕ
-mask-of [] = 0
-mask-of (s ∷ ss) = 2 ^ (31 - s) + mask-of ss
+abbrev pub mask_of : List ℕ → ℕ
+mask_of [] = 0
+mask_of (s ∷ ss) = 2 ^ (31 - s) + mask_of ss
 
 -- the spot s before the others, if its bit d is set
-abbrev pub with-spot : ℕ → ℕ → List ℕ → List ℕ
-with-spot zero s ss = ss
-with-spot (suc d) s ss = s ∷ ss
+abbrev pub with_spot : ℕ → ℕ → List ℕ → List ℕ
+with_spot zero s ss = ss
+with_spot (suc d) s ss = s ∷ ss
 
 -- the spots of a number with n bits, if its highest bit is the spot s
 unfoldable pub spots : ℕ → ℕ → ℕ → List ℕ
 spots zero s x = []
-spots (suc n) s x = with-spot (x / 2 ^ n) s (spots n (suc s) (x % 2 ^ n))
+spots (suc n) s x = with_spot (x / 2 ^ n) s (spots n (suc s) (x % 2 ^ n))
 
 -- the spots that the set has
-unfoldable pub spots-of : ℕ → List ℕ
-spots-of x = spots 32 0 x
+unfoldable pub spots_of : ℕ → List ℕ
+spots_of x = spots 32 0 x
 
 -- each above the one before it, from s on and below 32
 abbrev pub Ascends : ℕ → List ℕ → Type 0

@@ -2,7 +2,7 @@
 // numerically greatest down, by jumps over what can be none.
 ghost use Rattle.std.specs.Prelude.{◌≡◌, ◌<◌, ◌≤◌, bit_and, count_ones};
 ghost use Rattle.hitting.specs.Masks.{Within};
-ghost use Rattle.hitting.specs.Post.{Greatest, Lowered, Passed-or-none, Unmet-or-candidate, Next-or-none};
+ghost use Rattle.hitting.specs.Post.{Greatest, Lowered, PassedOrNone, UnmetOrCandidate, NextOrNone};
 
 use crate::clauses::first_missed;
 
@@ -31,7 +31,7 @@ fn without_lowest(x: u32) -> u32
 fn next_without(among: u32, mark: u32, x: u32) -> Option<u32>
     requires within { Within x among }
     requires missed { bit_and x mark ≡ 0 }
-    ensures { Passed-or-none among mark x result }
+    ensures { PassedOrNone among mark x result }
 {
     if mark == 0 {
         return None;
@@ -49,7 +49,7 @@ fn next_without(among: u32, mark: u32, x: u32) -> Option<u32>
 fn unmet(clauses: &[u32], among: u32, bits: u32, x: u32) -> Option<u32>
     requires within { Within x among }
     requires few { count_ones x ≤ bits }
-    ensures { Unmet-or-candidate clauses.now among bits x result }
+    ensures { UnmetOrCandidate clauses.now among bits x result }
 {
     if x.count_ones() < bits {
         return Some(among - x);
@@ -62,7 +62,7 @@ fn unmet(clauses: &[u32], among: u32, bits: u32, x: u32) -> Option<u32>
 
 // The greatest candidate up to `from`. Each turn leaves out at once all sets that fail for the same reason as `x`.
 pub fn next_candidate(clauses: &[u32], among: u32, bits: u32, from: u32) -> Option<u32>
-    ensures { Next-or-none clauses.now among bits from result }
+    ensures { NextOrNone clauses.now among bits from result }
 {
     let mut x = greatest_within(among, from);
     'down: loop {

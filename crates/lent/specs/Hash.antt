@@ -28,9 +28,9 @@ unfolding factors
 stir h at w = (h + (slice_index factors (at % 16) * w) % 2 ^ 64) % 2 ^ 64
 
 -- the words from `at` on
-abbrev pub hash-from : ℕ → ℕ → List ℕ → ℕ
-hash-from at h [] = h
-hash-from at h (w ∷ ws) = hash-from (suc at) (stir h at w) ws
+abbrev pub hash_from : ℕ → ℕ → List ℕ → ℕ
+hash_from at h [] = h
+hash_from at h (w ∷ ws) = hash_from (suc at) (stir h at w) ws
 
-unfoldable pub hash-of : List ℕ → ℕ
-hash-of ws = hash-from 0 0 ws
+unfoldable pub hash_of : List ℕ → ℕ
+hash_of ws = hash_from 0 0 ws

@@ -13,6 +13,6 @@ number [] = 0
 number (d ∷ ds) = d + 16 * number ds
 
 -- every one of these is below n
-abbrev pub All-below : ℕ → List ℕ → Type 0
-All-below n [] = Unit {0}
-All-below n (x ∷ xs) = (x < n) × All-below n xs
+abbrev pub AllBelow : ℕ → List ℕ → Type 0
+AllBelow n [] = Unit {0}
+AllBelow n (x ∷ xs) = (x < n) × AllBelow n xs

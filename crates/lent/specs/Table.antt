@@ -4,7 +4,7 @@
 -- records are forgotten at once, with no place cleared.
 use Rattle.std.specs.Prelude.{◌≡◌, ℕ, ◌+◌, ◌-◌, ◌*◌, ◌/◌, ◌^◌, ◌<◌, ◌≤◌, List, length, take, drop, ◌≢◌, slice_index, slice_index_or, slice_set}
 use Rattle.lent.specs.declared.shape.Shape.{Shape}
-use Rattle.lent.specs.Hash.{hash-of}
+use Rattle.lent.specs.Hash.{hash_of}
 use Rattle.lent.specs.Records.{rec}
 
 abbrev pub homes : Shape → ℕ
@@ -15,7 +15,7 @@ places s = homes s + s.room
 
 -- where the probe for a key begins: the highest bits of its hash
 unfoldable pub home : Shape → List ℕ → ℕ
-home s key = hash-of key / 2 ^ (64 - s.bits)
+home s key = hash_of key / 2 ^ (64 - s.bits)
 
 -- no place from a to b is free
 abbrev pub Full : List ℕ → ℕ → ℕ → ℕ → Type 0

@@ -2,7 +2,7 @@
 // the best mixed. It is quick: no product waits for another. Words are taken one by one, since a key has just been written
 // by words: to read two at once would wait for the writes.
 ghost use Rattle.std.specs.Prelude.{◌≡◌};
-ghost use Rattle.lent.specs.Hash.{stir, hash-of};
+ghost use Rattle.lent.specs.Hash.{stir, hash_of};
 
 // Odd numbers with about as many ones as zeros, one for each word in turn.
 const FACTORS: [u64; 16] = [
@@ -32,7 +32,7 @@ fn stirred(h: u64, at: usize, word: u32) -> u64
 }
 
 pub fn hash(key: &[u32]) -> u64
-    ensures { result ≡ hash-of key.now }
+    ensures { result ≡ hash_of key.now }
 {
     let mut h = 0;
     for i in 0..key.len() {

@@ -7,9 +7,9 @@ use Rattle.model.specs.Machine.{Wait, newest}
 use Rattle.machine.specs.declared.stores.Store.{Store}
 use Rattle.machine.specs.Stores.{wait, row, AllSmall}
 
-newest-push : (ws : List Wait) (w : Wait) (x v : ℕ) → newest (ws ++ w ∷ []) x v ≡ newest (w ∷ []) x (newest ws x v)
-newest-push [] w x v = refl
-newest-push (u ∷ ws) w x v = newest-push ws w x (pick (eqb u.place x) u.val v)
+newest_push : (ws : List Wait) (w : Wait) (x v : ℕ) → newest (ws ++ w ∷ []) x v ≡ newest (w ∷ []) x (newest ws x v)
+newest_push [] w x v = refl
+newest_push (u ∷ ws) w x v = newest_push ws w x (pick (eqb u.place x) u.val v)
 
 pub row_last : (items : List Store) (begin k : ℕ) (s : Store) → begin + k < length items → row items begin (k + 1) ≡ row items begin k ++ wait (get_or items (begin + k) s) ∷ []
 row_last items begin k s h =
@@ -18,10 +18,10 @@ row_last items begin k s h =
     ∙ map_push wait (take k (drop begin items)) (get_or items (begin + k) s)
 
 -- one store more is read
-pub newest-more : (items : List Store) (begin k : ℕ) (s : Store) (x m v : ℕ) → begin + k < length items → v ≡ newest (row items begin k) x m → newest (wait (get_or items (begin + k) s) ∷ []) x v ≡ newest (row items begin (k + 1)) x m
-newest-more items begin k s x m v h e =
+pub newest_more : (items : List Store) (begin k : ℕ) (s : Store) (x m v : ℕ) → begin + k < length items → v ≡ newest (row items begin k) x m → newest (wait (get_or items (begin + k) s) ∷ []) x v ≡ newest (row items begin (k + 1)) x m
+newest_more items begin k s x m v h e =
     ap (newest (wait (get_or items (begin + k) s) ∷ []) x) e
-    ∙ sym (ap (λ ws. newest ws x m) (row_last items begin k s h) ∙ newest-push (row items begin k) (wait (get_or items (begin + k) s)) x m)
+    ∙ sym (ap (λ ws. newest ws x m) (row_last items begin k s h) ∙ newest_push (row items begin k) (wait (get_or items (begin + k) s)) x m)
 
 pub row_pushed : (items : List Store) (begin len : ℕ) (s : Store) → begin + len < length items → row (set items (begin + len) s) begin (len + 1) ≡ row items begin len ++ wait s ∷ []
 row_pushed items begin len s h =
@@ -30,18 +30,18 @@ row_pushed items begin len s h =
     ∙ ap (map wait) (take_more_set (drop begin items) len s (omega arith))
     ∙ map_push wait (take len (drop begin items)) s
 
-pub small-set : (items : List Store) (i : ℕ) (s : Store) → s.place.0 < 8 → s.value < 16 → AllSmall items → AllSmall (set items i s)
-small-set items i s hp hv small k d h =
+pub small_set : (items : List Store) (i : ℕ) (s : Store) → s.place.0 < 8 → s.value < 16 → AllSmall items → AllSmall (set items i s)
+small_set items i s hp hv small k d h =
     let l = length-set items i s in
     elim (cases_eq k i) [
       | inl e ↦
           let g : get_or (set items i s) k d ≡ s = ap (λ j. get_or (set items i s) j d) e ∙ get_or-set_same items i s d (omega arith) in
-          (subst-lt (ap (λ (z : Store). z.place.0) g) hp, subst-lt (ap (λ (z : Store). z.value) g) hv)
+          (subst_lt (ap (λ (z : Store). z.place.0) g) hp, subst_lt (ap (λ (z : Store). z.value) g) hv)
       | inr ne ↦
           let g : get_or (set items i s) k d ≡ get_or items k d = get_or-set_other items i k s d ne in
           let r = small k d (omega arith) in
-          (subst-lt (ap (λ (z : Store). z.place.0) g) r.0, subst-lt (ap (λ (z : Store). z.value) g) r.1)
+          (subst_lt (ap (λ (z : Store). z.place.0) g) r.0, subst_lt (ap (λ (z : Store). z.value) g) r.1)
     ]
   where
-    subst-lt : {a b n : ℕ} → a ≡ b → b < n → a < n
-    subst-lt e h = omega arith
+    subst_lt : {a b n : ℕ} → a ≡ b → b < n → a < n
+    subst_lt e h = omega arith

@@ -4,28 +4,28 @@ use Rattle.std.proofs.Math.Option.{some, none}
 use Rattle.model.specs.Code.{I}
 use Rattle.model.specs.Machine.{At, does}
 use Rattle.machine.specs.declared.triples.ThreadWords.{ThreadWords}
-use Rattle.machine.specs.Packed.{Packs-at}
+use Rattle.machine.specs.Packed.{PacksAt}
 
 -- the words are the thread a
-abbrev pub Words-at : ThreadWords → At → Type 0
-Words-at t a = Packs-at t.first t.values t.places a
+abbrev pub WordsAt : ThreadWords → At → Type 0
+WordsAt t a = PacksAt t.first t.values t.places a
 
 -- they are a thread that is not behind an eighth instruction
 abbrev pub Standing : ThreadWords → Type 0
-Standing t = (a : At) × Words-at t a × (a.pc < 8)
+Standing t = (a : At) × WordsAt t a × (a.pc < 8)
 
 -- the thread that they are becomes another
 abbrev pub Becomes : ThreadWords → (At → At) → ThreadWords → Type 0
-Becomes t f u = (a : At) → Words-at t a → a.pc < 8 → Words-at u (f a)
+Becomes t f u = (a : At) → WordsAt t a → a.pc < 8 → WordsAt u (f a)
 
 -- the instruction i, done by the thread where memory is m
 abbrev pub Did : List ℕ → ThreadWords → I → Option ThreadWords → Type 0
-Did m t i (Some u) = (a : At) → Words-at t a → (b : At) × (does m a i ≡ some b) × Words-at u b
-Did m t i None = (a : At) → Words-at t a → does m a i ≡ none
+Did m t i (Some u) = (a : At) → WordsAt t a → (b : At) × (does m a i ≡ some b) × WordsAt u b
+Did m t i None = (a : At) → WordsAt t a → does m a i ≡ none
 
 -- the words of thread n of a state, and a state with other words for it
-abbrev pub thread-words : List ℕ → ℕ → ThreadWords
-thread-words ws n = record { first = slice_index ws (1 + 3 * n); values = slice_index ws (2 + 3 * n); places = slice_index ws (3 + 3 * n) }
+abbrev pub thread_words : List ℕ → ℕ → ThreadWords
+thread_words ws n = record { first = slice_index ws (1 + 3 * n); values = slice_index ws (2 + 3 * n); places = slice_index ws (3 + 3 * n) }
 
-abbrev pub with-words : List ℕ → ℕ → ThreadWords → List ℕ
-with-words ws n t = slice_set (slice_set (slice_set ws (1 + 3 * n) t.first) (2 + 3 * n) t.values) (3 + 3 * n) t.places
+abbrev pub with_words : List ℕ → ℕ → ThreadWords → List ℕ
+with_words ws n t = slice_set (slice_set (slice_set ws (1 + 3 * n) t.first) (2 + 3 * n) t.values) (3 + 3 * n) t.places

@@ -2,11 +2,11 @@
 // looked up for every move. Only a read that may find a store of its own takes the row apart.
 ghost use Rattle.std.specs.Prelude.{◌≡◌, ◌<◌, T, List, [], ◌∷◌, ◌++◌, length};
 ghost use Rattle.lent.specs.Nibbles.{nibbles};
-ghost use Rattle.model.specs.Code.{ok-i, put};
+ghost use Rattle.model.specs.Code.{ok_i, put};
 ghost use Rattle.model.specs.Machine.{At, Wait, done, newest};
 ghost use Rattle.program.specs.Instructions.{instruction};
 ghost use Rattle.machine.specs.Stores.{wait};
-ghost use Rattle.machine.specs.Effects.{Words-at, Standing, Becomes, Did};
+ghost use Rattle.machine.specs.Effects.{WordsAt, Standing, Becomes, Did};
 
 use crate::packed::unpack_row;
 use crate::stores::Store;
@@ -17,14 +17,14 @@ use program::instructions::{Instruction, Place, Register};
 impl ThreadWords {
     // Which instruction is next.
     pub fn pc(self) -> usize
-        ensures { (a : At) → Words-at self a → result ≡ a.pc }
+        ensures { (a : At) → WordsAt self a → result ≡ a.pc }
     {
         ((self.first >> 16) & 15) as usize
     }
 
     // How many stores wait.
     pub fn waiting(self) -> u32
-        ensures { (a : At) → Words-at self a → result ≡ length a.waits }
+        ensures { (a : At) → WordsAt self a → result ≡ length a.waits }
     {
         self.first >> 20
     }
@@ -75,7 +75,7 @@ impl ThreadWords {
     fn read(self, place: Place, memory: u32) -> u32
         requires standing { Standing self }
         requires small { memory < 16 }
-        ensures value { (a : At) → Words-at self a → result ≡ newest a.waits place.0 memory }
+        ensures value { (a : At) → WordsAt self a → result ≡ newest a.waits place.0 memory }
         ensures small { result < 16 }
     {
         let len = self.waiting();
@@ -88,7 +88,7 @@ impl ThreadWords {
     // The thread with the instruction done, where memory is as given; none for a fence while a store waits.
     pub fn does(self, memory: u32, i: Instruction) -> Option<ThreadWords>
         requires standing { Standing self }
-        requires fine { T (ok-i (instruction i)) }
+        requires fine { T (ok_i (instruction i)) }
         ensures { Did (nibbles 8 memory) self (instruction i) result }
     {
         match i {
@@ -117,7 +117,7 @@ impl ThreadWords {
 
     // The oldest store.
     pub fn oldest(self) -> Store
-        ensures first { (a : At) (w : Wait) (ws : List Wait) → Words-at self a → a.waits ≡ w ∷ ws → wait result ≡ w }
+        ensures first { (a : At) (w : Wait) (ws : List Wait) → WordsAt self a → a.waits ≡ w ∷ ws → wait result ≡ w }
         ensures place { result.place.0 < 8 }
         ensures value { result.value < 16 }
     {
@@ -129,8 +129,8 @@ impl ThreadWords {
 
     // The thread without its oldest store.
     pub fn rest(self) -> ThreadWords
-        requires { (a : At) × Words-at self a × (0 < length a.waits) }
-        ensures { (a : At) (w : Wait) (ws : List Wait) → Words-at self a → a.waits ≡ w ∷ ws → Words-at result (record { pc = a.pc; regs = a.regs; waits = ws }) }
+        requires { (a : At) × WordsAt self a × (0 < length a.waits) }
+        ensures { (a : At) (w : Wait) (ws : List Wait) → WordsAt self a → a.waits ≡ w ∷ ws → WordsAt result (record { pc = a.pc; regs = a.regs; waits = ws }) }
     {
         ThreadWords {
             first: self.first - 0x10_0000,

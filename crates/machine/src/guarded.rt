@@ -1,7 +1,7 @@
 // A move under a guard: a guarded instruction may be done only if no store of its thread waits. It is what a fence
 // right before the instruction does, and the program stays as it is.
 ghost use Rattle.std.specs.Prelude.{◌≡◌, ◌+◌, ◌*◌, ◌<◌, length};
-ghost use Rattle.model.specs.Machine.{next as next-move};
+ghost use Rattle.model.specs.Machine.{next as next_move};
 ghost use Rattle.model.specs.Guards.{gmove};
 ghost use Rattle.program.specs.Meaning.{program};
 ghost use Rattle.machine.specs.Post.{Holds, Stepped};
@@ -18,7 +18,7 @@ pub fn guarded(p: &Program, n: ThreadNumber, guard: bool, from: &[u32], to: &mut
     requires room { 3 + 3 * n.0 < length from.now }
     requires thread { n.0 < length (program p.now) }
     requires holds { Holds (program p.now) from.now }
-    ensures { Stepped (λ s. gmove (λ _ _. guard) (program p.now) s (next-move n.0)) from.now result to.new }
+    ensures { Stepped (λ s. gmove (λ _ _. guard) (program p.now) s (next_move n.0)) from.now result to.new }
 {
     if guard && !nothing_waits(from, n.0) {
         return false;

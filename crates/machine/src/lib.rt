@@ -1,6 +1,6 @@
 // The store-buffer machine in code: a thread's registers and row of waiting stores, one move, and states as words.
 ghost use Rattle.std.specs.Prelude.{◌≡◌, true};
-ghost use Rattle.machine.specs.Words.{Words-are-states};
+ghost use Rattle.machine.specs.Words.{WordsAreStates};
 
 pub mod at_once;
 pub mod buffer;
@@ -16,7 +16,7 @@ pub mod triples;
 
 // That states and their words are one another, for its contract: the crate is refused without the proof.
 pub fn words_are_states() -> bool
-    ensures { (result ≡ true) × Words-are-states }
+    ensures { (result ≡ true) × WordsAreStates }
 {
     true
 }

@@ -1,8 +1,8 @@
 // Moves of the machine on states as words: a thread's next instruction, a thread's oldest store going to memory.
 ghost use Rattle.std.specs.Prelude.{◌≡◌, ◌+◌, ◌*◌, ◌<◌, length};
-ghost use Rattle.model.specs.Machine.{next as next-move, out as out-move, move};
+ghost use Rattle.model.specs.Machine.{next as next_move, out as out_move, move};
 ghost use Rattle.program.specs.Meaning.{program};
-ghost use Rattle.machine.specs.Effects.{thread-words, with-words};
+ghost use Rattle.machine.specs.Effects.{thread_words, with_words};
 ghost use Rattle.machine.specs.Post.{Holds, Stepped};
 
 use crate::triples::ThreadWords;
@@ -13,7 +13,7 @@ use program::threads::Program;
 // The words of thread `n` of a state.
 fn words_of(state: &[u32], n: usize) -> ThreadWords
     requires { 3 + 3 * n < length state.now }
-    ensures { result ≡ thread-words state.now n }
+    ensures { result ≡ thread_words state.now n }
 {
     ThreadWords {
         first: state[1 + 3 * n],
@@ -25,7 +25,7 @@ fn words_of(state: &[u32], n: usize) -> ThreadWords
 // Puts a thread's words into a state.
 fn put_words(state: &mut [u32], n: usize, t: ThreadWords)
     requires { 3 + 3 * n < length state.old }
-    ensures { state.new ≡ with-words state.old n t }
+    ensures { state.new ≡ with_words state.old n t }
 {
     state[1 + 3 * n] = t.first;
     state[2 + 3 * n] = t.values;
@@ -38,7 +38,7 @@ pub fn next(p: &Program, n: ThreadNumber, from: &[u32], to: &mut [u32]) -> bool
     requires room { 3 + 3 * n.0 < length from.now }
     requires thread { n.0 < length (program p.now) }
     requires holds { Holds (program p.now) from.now }
-    ensures { Stepped (λ s. move (program p.now) s (next-move n.0)) from.now result to.new }
+    ensures { Stepped (λ s. move (program p.now) s (next_move n.0)) from.now result to.new }
 {
     let thread = words_of(from, n.0);
     let Some(i) = p.instruction(n.0, thread.pc()) else {
@@ -58,7 +58,7 @@ pub fn out(p: &Program, n: ThreadNumber, from: &[u32], to: &mut [u32]) -> bool
     requires room { 3 + 3 * n.0 < length from.now }
     requires thread { n.0 < length (program p.now) }
     requires holds { Holds (program p.now) from.now }
-    ensures { Stepped (λ s. move (program p.now) s (out-move n.0)) from.now result to.new }
+    ensures { Stepped (λ s. move (program p.now) s (out_move n.0)) from.now result to.new }
 {
     let thread = words_of(from, n.0);
     if thread.waiting() == 0 {

@@ -4,7 +4,7 @@ ghost use Rattle.std.specs.Prelude.{◌≡◌, ◌≤◌, [], ◌∷◌};
 ghost use Rattle.model.specs.Machine.{At};
 ghost use Rattle.lent.specs.Nibbles.{number};
 ghost use Rattle.machine.specs.Meaning.{at, waits};
-ghost use Rattle.machine.specs.Packed.{Packs-at, pack-at, unpack-at, pairs, values as values_of, places as places_of};
+ghost use Rattle.machine.specs.Packed.{PacksAt, pack_at, unpack_at, pairs, values as values_of, places as places_of};
 
 use crate::rows::Row;
 use crate::stores::Store;
@@ -39,8 +39,8 @@ pub fn unpack_row(len: usize, values: u32, places: u32) -> Row
 
 // The thread that three words are.
 pub fn unpack_thread(word: u32, values: u32, places: u32) -> ThreadState
-    requires { (a : At) × Packs-at word values places a }
-    ensures { at result ≡ unpack-at word values places }
+    requires { (a : At) × PacksAt word values places a }
+    ensures { at result ≡ unpack_at word values places }
 {
     ThreadState {
         pc: ((word >> 16) & 15) as usize,

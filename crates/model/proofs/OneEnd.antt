@@ -10,8 +10,8 @@ use lib.ListN.{length}
 use lib.Dec.{eqb}
 use Rattle.model.specs.Code.{I, sets, adds, loads, stores, fence, Thread, Prog}
 use Rattle.model.specs.Machine.{At, St, Move, next, out, move, moves, begin, does, empty, all_done, regs_of}
-use Rattle.model.specs.Theorems.{One-end}
-use Rattle.model.proofs.Tools.{some_is, length-put, next_of, out_of, rest_of, pick_some, Each, each_right, each_both, each_back, moves-keep, starts-each, and_both, eqb_is, empty-is}
+use Rattle.model.specs.Theorems.{OneEnd}
+use Rattle.model.proofs.Tools.{some_is, length_put, next_of, out_of, rest_of, pick_some, Each, each_right, each_both, each_back, moves_keep, starts_each, and_both, eqb_is, empty_is}
 
 -- every thread of the code has four registers
 abbrev Fine : ℕ → Thread → At → Type 0
@@ -20,28 +20,28 @@ Fine n c a = length a.regs ≡ 4
 abbrev Whole : Prog → St → Type 0
 Whole p s = (length s.mem ≡ 8) × Each Fine p s.threads
 
-does-regs : (m : List ℕ) (a b : At) (i : I) → does m a i ≡ some b → length b.regs ≡ length a.regs
-does-regs m a b (sets r n) e = ap (λ (z : At). length z.regs) (sym (some_is e)) ∙ length-put a.regs r _
-does-regs m a b (adds r x y) e = ap (λ (z : At). length z.regs) (sym (some_is e)) ∙ length-put a.regs r _
-does-regs m a b (loads r x) e = ap (λ (z : At). length z.regs) (sym (some_is e)) ∙ length-put a.regs r _
-does-regs m a b (stores x r) e = ap (λ (z : At). length z.regs) (sym (some_is e))
-does-regs m a b fence e = let (q, f) = pick_some (empty a.waits) _ e in ap (λ (z : At). length z.regs) (sym (some_is f))
+does_regs : (m : List ℕ) (a b : At) (i : I) → does m a i ≡ some b → length b.regs ≡ length a.regs
+does_regs m a b (sets r n) e = ap (λ (z : At). length z.regs) (sym (some_is e)) ∙ length_put a.regs r _
+does_regs m a b (adds r x y) e = ap (λ (z : At). length z.regs) (sym (some_is e)) ∙ length_put a.regs r _
+does_regs m a b (loads r x) e = ap (λ (z : At). length z.regs) (sym (some_is e)) ∙ length_put a.regs r _
+does_regs m a b (stores x r) e = ap (λ (z : At). length z.regs) (sym (some_is e))
+does_regs m a b fence e = let (q, f) = pick_some (empty a.waits) _ e in ap (λ (z : At). length z.regs) (sym (some_is f))
 
-move-whole : (p : Prog) (s t : St) (m : Move) → Whole p s → move p s m ≡ some t → Whole p t
-move-whole p s t (next n) (l, h) e =
+move_whole : (p : Prog) (s t : St) (m : Move) → Whole p s → move p s m ≡ some t → Whole p t
+move_whole p s t (next n) (l, h) e =
     let x = next_of p s n t e in
     let four = each_both Fine p s.threads n h x.of x.stands in
-    subst (Whole p) (sym x.gives) (l, each_right Fine p s.threads n x.now h x.of (does-regs s.mem x.was x.now x.i x.did ∙ four))
-move-whole p s t (out n) (l, h) e =
+    subst (Whole p) (sym x.gives) (l, each_right Fine p s.threads n x.now h x.of (does_regs s.mem x.was x.now x.i x.did ∙ four))
+move_whole p s t (out n) (l, h) e =
     let x = out_of p s n t e in
     let (c, ec, four) = each_back Fine p s.threads n h x.stands in
-    subst (Whole p) (sym x.gives) (length-put s.mem _ _ ∙ l, each_right Fine p s.threads n (rest_of x.was x.ws) h ec four)
+    subst (Whole p) (sym x.gives) (length_put s.mem _ _ ∙ l, each_right Fine p s.threads n (rest_of x.was x.ws) h ec four)
 
-begin-whole : (p : Prog) → Whole p (begin p)
-begin-whole p = (refl, starts-each Fine p (λ n c e. refl))
+begin_whole : (p : Prog) → Whole p (begin p)
+begin_whole p = (refl, starts_each Fine p (λ n c e. refl))
 
-pub run-whole : (p : Prog) (s : St) (ms : List Move) → moves p (begin p) ms ≡ some s → Whole p s
-run-whole p s ms e = moves-keep (Whole p) p (move-whole p) (begin p) s ms (begin-whole p) e
+pub run_whole : (p : Prog) (s : St) (ms : List Move) → moves p (begin p) ms ≡ some s → Whole p s
+run_whole p s ms e = moves_keep (Whole p) p (move_whole p) (begin p) s ms (begin_whole p) e
 
 -- two lists cut at the same place
 cut : (xs ys us vs : List ℕ) → length xs ≡ length us → xs ++ ys ≡ us ++ vs → (xs ≡ us) × (ys ≡ vs)
@@ -70,13 +70,13 @@ same_ends (t ∷ ts) (a ∷ as₁) (b ∷ bs) m k f g d e q =
     let (e3, e4) = and_both (empty b.waits) _ e2 in
     let (tail, mem) = same_ends ts as₁ bs m k (λ n. f (suc n)) (λ n. g (suc n)) d4 e4 more in
     let pc : a.pc ≡ b.pc = eqb_is a.pc (length t) d1 ∙ sym (eqb_is b.pc (length t) e1) in
-    let row : a.waits ≡ b.waits = empty-is a.waits d3 ∙ sym (empty-is b.waits e3) in
+    let row : a.waits ≡ b.waits = empty_is a.waits d3 ∙ sym (empty_is b.waits e3) in
     let head : a ≡ b = λ i. record { pc = pc i; regs = regs i; waits = row i } in
     (cc, mem)
 
-pub one_end : One-end
+pub one_end : OneEnd
 one_end p ms ns s t es et ds dt q =
-    let ws = run-whole p s ms es in
-    let wt = run-whole p t ns et in
+    let ws = run_whole p s ms es in
+    let wt = run_whole p t ns et in
     let (threads, mem) = same_ends p s.threads t.threads s.mem t.mem ws.1 wt.1 ds dt q in
     λ i. record { mem = mem i; threads = threads i }

@@ -10,35 +10,35 @@ use lib.Dec.{eqb}
 use Rattle.model.specs.Code.{pick, opt, nth, Prog}
 use Rattle.model.specs.Machine.{At, St, Move, next, out, move, moves, empty}
 use Rattle.model.specs.Fences.{Spot}
-use Rattle.model.specs.Guards.{Guard, guards, free, gmove, gmoves, hit, hits, On, on-first, on-more, Apart}
-use Rattle.model.specs.Theorems.{No-more-states, Still-a-run}
-use Rattle.model.proofs.Tools.{opt-some, opt-is, false-true, pick_some, eqb_is, eqb_same, and_both}
+use Rattle.model.specs.Guards.{Guard, guards, free, gmove, gmoves, hit, hits, On, on_first, on_more, Apart}
+use Rattle.model.specs.Theorems.{NoMoreStates, StillARun}
+use Rattle.model.proofs.Tools.{opt_some, opt_is, false_true, pick_some, eqb_is, eqb_same, and_both}
 
 -- standing in a list, by its first
 abbrev pub OnV : Spot → List Spot → Type 0
 OnV a [] = ⊥
 OnV a (s ∷ ss) = (a ≡ s) ⊎ On a ss
 
-pub on-inv : {a : Spot} {ss : List Spot} → On a ss → OnV a ss
-on-inv on-first = inl refl
-on-inv (on-more h) = inr h
+pub on_inv : {a : Spot} {ss : List Spot} → On a ss → OnV a ss
+on_inv on_first = inl refl
+on_inv (on_more h) = inr h
 
-pub on-left : {a : Spot} (ss ts : List Spot) → On a ss → On a (ss ++ ts)
-on-left [] ts h = absurd (on-inv h)
-on-left (s ∷ ss) ts h = elim (on-inv h) [ inl e ↦ subst (λ (z : Spot). On z (s ∷ (ss ++ ts))) (sym e) on-first | inr k ↦ on-more (on-left ss ts k) ]
+pub on_left : {a : Spot} (ss ts : List Spot) → On a ss → On a (ss ++ ts)
+on_left [] ts h = absurd (on_inv h)
+on_left (s ∷ ss) ts h = elim (on_inv h) [ inl e ↦ subst (λ (z : Spot). On z (s ∷ (ss ++ ts))) (sym e) on_first | inr k ↦ on_more (on_left ss ts k) ]
 
-pub on-right : {a : Spot} (ss ts : List Spot) → On a ts → On a (ss ++ ts)
-on-right [] ts h = h
-on-right (s ∷ ss) ts h = on-more (on-right ss ts h)
+pub on_right : {a : Spot} (ss ts : List Spot) → On a ts → On a (ss ++ ts)
+on_right [] ts h = h
+on_right (s ∷ ss) ts h = on_more (on_right ss ts h)
 
-pub on-either : {a : Spot} (ss ts : List Spot) → On a (ss ++ ts) → On a ss ⊎ On a ts
-on-either [] ts h = inr h
-on-either {a} (s ∷ ss) ts h = elim (on-inv h) [ inl e ↦ inl (subst (λ (z : Spot). On z (s ∷ ss)) (sym e) on-first) | inr k ↦ elim (on-either ss ts k) [ inl x ↦ inl (on-more x) | inr y ↦ inr y ] ]
+pub on_either : {a : Spot} (ss ts : List Spot) → On a (ss ++ ts) → On a ss ⊎ On a ts
+on_either [] ts h = inr h
+on_either {a} (s ∷ ss) ts h = elim (on_inv h) [ inl e ↦ inl (subst (λ (z : Spot). On z (s ∷ ss)) (sym e) on_first) | inr k ↦ elim (on_either ss ts k) [ inl x ↦ inl (on_more x) | inr y ↦ inr y ] ]
 
 -- the test of a guard says whether the spot stands in the list
-pub on-guards : (a : Spot) (ss : List Spot) → On a ss → guards ss a.thread a.index ≡ true
-on-guards a [] h = absurd (on-inv h)
-on-guards a (s ∷ ss) h = elim (on-inv h) [ inl e ↦ same e | inr k ↦ more (on-guards a ss k) (eqb s.thread a.thread && eqb s.index a.index) ]
+pub on_guards : (a : Spot) (ss : List Spot) → On a ss → guards ss a.thread a.index ≡ true
+on_guards a [] h = absurd (on_inv h)
+on_guards a (s ∷ ss) h = elim (on_inv h) [ inl e ↦ same e | inr k ↦ more (on_guards a ss k) (eqb s.thread a.thread && eqb s.index a.index) ]
   where
     same : a ≡ s → (eqb s.thread a.thread && eqb s.index a.index) || guards ss a.thread a.index ≡ true
     same e = rw e (rw (eqb_same s.thread) (rw (eqb_same s.index) refl))
@@ -47,9 +47,9 @@ on-guards a (s ∷ ss) h = elim (on-inv h) [ inl e ↦ same e | inr k ↦ more (
     more g true = refl
     more g false = g
 
-pub guards-on : (n k : ℕ) (ss : List Spot) → guards ss n k ≡ true → On (record { thread = n; index = k }) ss
-guards-on n k [] h = absurd (false-true h)
-guards-on n k (s ∷ ss) h = go (eqb s.thread n && eqb s.index k) refl h (guards-on n k ss)
+pub guards_on : (n k : ℕ) (ss : List Spot) → guards ss n k ≡ true → On (record { thread = n; index = k }) ss
+guards_on n k [] h = absurd (false_true h)
+guards_on n k (s ∷ ss) h = go (eqb s.thread n && eqb s.index k) refl h (guards_on n k ss)
   where
     go : (b : Bool) → eqb s.thread n && eqb s.index k ≡ b → b || guards ss n k ≡ true → (guards ss n k ≡ true → On (record { thread = n; index = k }) ss) → On (record { thread = n; index = k }) (s ∷ ss)
     go true e g f =
@@ -57,53 +57,53 @@ guards-on n k (s ∷ ss) h = go (eqb s.thread n && eqb s.index k) refl h (guards
         let u = eqb_is s.thread n x in
         let v = eqb_is s.index k y in
         let q : s ≡ record { thread = n; index = k } = λ i. record { thread = u i; index = v i } in
-        subst (λ (z : Spot). On z (s ∷ ss)) q on-first
-    go false e g f = on-more (f g)
+        subst (λ (z : Spot). On z (s ∷ ss)) q on_first
+    go false e g f = on_more (f g)
 
-pub gmove-move : (g : Guard) (p : Prog) (s t : St) (m : Move) → gmove g p s m ≡ some t → (free g s m ≡ true) × (move p s m ≡ some t)
-gmove-move g p s t m e = pick_some (free g s m) (move p s m) e
+pub gmove_move : (g : Guard) (p : Prog) (s t : St) (m : Move) → gmove g p s m ≡ some t → (free g s m ≡ true) × (move p s m ≡ some t)
+gmove_move g p s t m e = pick_some (free g s m) (move p s m) e
 
-pub move-gmove : (g : Guard) (p : Prog) (s t : St) (m : Move) → free g s m ≡ true → move p s m ≡ some t → gmove g p s m ≡ some t
-move-gmove g p s t m f e = rw f e
+pub move_gmove : (g : Guard) (p : Prog) (s t : St) (m : Move) → free g s m ≡ true → move p s m ≡ some t → gmove g p s m ≡ some t
+move_gmove g p s t m f e = rw f e
 
-pub no-more-states : No-more-states
-no-more-states g p s t [] e = e
-no-more-states g p s t (m ∷ ms) e =
-    let (u, eu, e1) = opt-some (gmove g p s m) _ e in
-    opt-is (move p s m) none _ (gmove-move g p s u m eu).1 ∙ no-more-states g p u t ms e1
+pub no_more_states : NoMoreStates
+no_more_states g p s t [] e = e
+no_more_states g p s t (m ∷ ms) e =
+    let (u, eu, e1) = opt_some (gmove g p s m) _ e in
+    opt_is (move p s m) none _ (gmove_move g p s u m eu).1 ∙ no_more_states g p u t ms e1
 
 -- more guards, fewer runs
-pub free-less : (g h : Guard) (s : St) (m : Move) → ((n k : ℕ) → g n k ≡ true → h n k ≡ true) → free h s m ≡ true → free g s m ≡ true
-free-less g h s (next n) less f = at (nth s.threads n) f
+pub free_less : (g h : Guard) (s : St) (m : Move) → ((n k : ℕ) → g n k ≡ true → h n k ≡ true) → free h s m ≡ true → free g s m ≡ true
+free_less g h s (next n) less f = at (nth s.threads n) f
   where
     one : (k : ℕ) (e a b : Bool) → g n k ≡ a → h n k ≡ b → not b || e ≡ true → not a || e ≡ true
     one k true true b ea eb q = refl
     one k true false b ea eb q = refl
     one k false false b ea eb q = refl
     one k false true true ea eb q = q
-    one k false true false ea eb q = absurd (false-true (sym eb ∙ less n k ea))
+    one k false true false ea eb q = absurd (false_true (sym eb ∙ less n k ea))
 
     at : (o : Option At) → opt o true (λ a. not (h n a.pc) || empty a.waits) ≡ true → opt o true (λ a. not (g n a.pc) || empty a.waits) ≡ true
     at none q = refl
     at (some a) q = one a.pc (empty a.waits) (g n a.pc) (h n a.pc) refl refl q
-free-less g h s (out n) less f = refl
+free_less g h s (out n) less f = refl
 
-pub gmoves-less : (g h : Guard) (p : Prog) (s t : St) (ms : List Move) → ((n k : ℕ) → g n k ≡ true → h n k ≡ true) → gmoves h p s ms ≡ some t → gmoves g p s ms ≡ some t
-gmoves-less g h p s t [] less e = e
-gmoves-less g h p s t (m ∷ ms) less e =
-    let (u, eu, e1) = opt-some (gmove h p s m) _ e in
-    let (f, em) = gmove-move h p s u m eu in
-    opt-is (gmove g p s m) none _ (move-gmove g p s u m (free-less g h s m less f) em) ∙ gmoves-less g h p u t ms less e1
+pub gmoves_less : (g h : Guard) (p : Prog) (s t : St) (ms : List Move) → ((n k : ℕ) → g n k ≡ true → h n k ≡ true) → gmoves h p s ms ≡ some t → gmoves g p s ms ≡ some t
+gmoves_less g h p s t [] less e = e
+gmoves_less g h p s t (m ∷ ms) less e =
+    let (u, eu, e1) = opt_some (gmove h p s m) _ e in
+    let (f, em) = gmove_move h p s u m eu in
+    opt_is (gmove g p s m) none _ (move_gmove g p s u m (free_less g h s m less f) em) ∙ gmoves_less g h p u t ms less e1
 
 -- with no guard at all every run is one
 abbrev pub unguarded : Guard
 unguarded n k = false
 
-pub moves-gmoves : (p : Prog) (s t : St) (ms : List Move) → moves p s ms ≡ some t → gmoves unguarded p s ms ≡ some t
-moves-gmoves p s t [] e = e
-moves-gmoves p s t (m ∷ ms) e =
-    let (u, eu, e1) = opt-some (move p s m) _ e in
-    opt-is (gmove unguarded p s m) none _ (move-gmove unguarded p s u m (go m) eu) ∙ moves-gmoves p u t ms e1
+pub moves_gmoves : (p : Prog) (s t : St) (ms : List Move) → moves p s ms ≡ some t → gmoves unguarded p s ms ≡ some t
+moves_gmoves p s t [] e = e
+moves_gmoves p s t (m ∷ ms) e =
+    let (u, eu, e1) = opt_some (move p s m) _ e in
+    opt_is (gmove unguarded p s m) none _ (move_gmove unguarded p s u m (go m) eu) ∙ moves_gmoves p u t ms e1
   where
     at : (o : Option At) → opt o true (λ a. not false || empty a.waits) ≡ true
     at none = refl
@@ -114,48 +114,48 @@ moves-gmoves p s t (m ∷ ms) e =
     go (out n) = refl
 
 -- no guard forbids a move exactly if its hit is no guarded spot
-free-apart : (ss : List Spot) (s : St) (m : Move) → free (guards ss) s m ≡ true → Apart ss (hit s m)
-free-apart ss s (next n) h = at (nth s.threads n) h
+free_apart : (ss : List Spot) (s : St) (m : Move) → free (guards ss) s m ≡ true → Apart ss (hit s m)
+free_apart ss s (next n) h = at (nth s.threads n) h
   where
     one : (k : ℕ) (e : Bool) → not (guards ss n k) || e ≡ true → Apart ss (pick e [] (record { thread = n; index = k } ∷ []))
-    one k true h = λ a x y. on-inv y
-    one k false h = λ a x y. elim (on-inv y) [ inl e ↦ false-true (sym (ap (λ (z : Bool). not z || false) (subst (λ (z : Spot). guards ss z.thread z.index ≡ true) e (on-guards a ss x))) ∙ h) | inr z ↦ on-inv z ]
+    one k true h = λ a x y. on_inv y
+    one k false h = λ a x y. elim (on_inv y) [ inl e ↦ false_true (sym (ap (λ (z : Bool). not z || false) (subst (λ (z : Spot). guards ss z.thread z.index ≡ true) e (on_guards a ss x))) ∙ h) | inr z ↦ on_inv z ]
 
     at : (o : Option At) → opt o true (λ a. not (guards ss n a.pc) || empty a.waits) ≡ true → Apart ss (opt o [] (λ a. pick (empty a.waits) [] (record { thread = n; index = a.pc } ∷ [])))
-    at none h = λ a x y. on-inv y
+    at none h = λ a x y. on_inv y
     at (some b) h = one b.pc (empty b.waits) h
-free-apart ss s (out n) h = λ a x y. on-inv y
+free_apart ss s (out n) h = λ a x y. on_inv y
 
-apart-free : (ss : List Spot) (s : St) (m : Move) → Apart ss (hit s m) → free (guards ss) s m ≡ true
-apart-free ss s (next n) h = at (nth s.threads n) h
+apart_free : (ss : List Spot) (s : St) (m : Move) → Apart ss (hit s m) → free (guards ss) s m ≡ true
+apart_free ss s (next n) h = at (nth s.threads n) h
   where
     one : (k : ℕ) (e : Bool) (b : Bool) → guards ss n k ≡ b → Apart ss (pick e [] (record { thread = n; index = k } ∷ [])) → not b || e ≡ true
     one k true true q h = refl
     one k true false q h = refl
-    one k false true q h = absurd (h (record { thread = n; index = k }) (guards-on n k ss q) on-first)
+    one k false true q h = absurd (h (record { thread = n; index = k }) (guards_on n k ss q) on_first)
     one k false false q h = refl
 
     at : (o : Option At) → Apart ss (opt o [] (λ a. pick (empty a.waits) [] (record { thread = n; index = a.pc } ∷ []))) → opt o true (λ a. not (guards ss n a.pc) || empty a.waits) ≡ true
     at none h = refl
     at (some b) h = one b.pc (empty b.waits) (guards ss n b.pc) refl h
-apart-free ss s (out n) h = refl
+apart_free ss s (out n) h = refl
 
-still-apart : (ss : List Spot) (p : Prog) (s t : St) (ms : List Move) → gmoves (guards ss) p s ms ≡ some t → Apart ss (hits p s ms)
-still-apart ss p s t [] e a x y = on-inv y
-still-apart ss p s t (m ∷ ms) e a x y =
-    let (u, eu, e1) = opt-some (gmove (guards ss) p s m) _ e in
-    let (f, em) = gmove-move (guards ss) p s u m eu in
-    let k = subst (λ (z : List Spot). On a (hit s m ++ z)) (opt-is (move p s m) [] (λ v. hits p v ms) em) y in
-    elim (on-either (hit s m) (hits p u ms) k) [ inl h ↦ free-apart ss s m f a x h | inr h ↦ still-apart ss p u t ms e1 a x h ]
+still_apart : (ss : List Spot) (p : Prog) (s t : St) (ms : List Move) → gmoves (guards ss) p s ms ≡ some t → Apart ss (hits p s ms)
+still_apart ss p s t [] e a x y = on_inv y
+still_apart ss p s t (m ∷ ms) e a x y =
+    let (u, eu, e1) = opt_some (gmove (guards ss) p s m) _ e in
+    let (f, em) = gmove_move (guards ss) p s u m eu in
+    let k = subst (λ (z : List Spot). On a (hit s m ++ z)) (opt_is (move p s m) [] (λ v. hits p v ms) em) y in
+    elim (on_either (hit s m) (hits p u ms) k) [ inl h ↦ free_apart ss s m f a x h | inr h ↦ still_apart ss p u t ms e1 a x h ]
 
-apart-still : (ss : List Spot) (p : Prog) (s t : St) (ms : List Move) → moves p s ms ≡ some t → Apart ss (hits p s ms) → gmoves (guards ss) p s ms ≡ some t
-apart-still ss p s t [] e h = e
-apart-still ss p s t (m ∷ ms) e h =
-    let (u, eu, e1) = opt-some (move p s m) _ e in
-    let split = opt-is (move p s m) [] (λ v. hits p v ms) eu in
+apart_still : (ss : List Spot) (p : Prog) (s t : St) (ms : List Move) → moves p s ms ≡ some t → Apart ss (hits p s ms) → gmoves (guards ss) p s ms ≡ some t
+apart_still ss p s t [] e h = e
+apart_still ss p s t (m ∷ ms) e h =
+    let (u, eu, e1) = opt_some (move p s m) _ e in
+    let split = opt_is (move p s m) [] (λ v. hits p v ms) eu in
     let k = subst (λ (z : List Spot). Apart ss (hit s m ++ z)) split h in
-    let f = apart-free ss s m (λ a x y. k a x (on-left (hit s m) (hits p u ms) y)) in
-    opt-is (gmove (guards ss) p s m) none _ (move-gmove (guards ss) p s u m f eu) ∙ apart-still ss p u t ms e1 (λ a x y. k a x (on-right (hit s m) (hits p u ms) y))
+    let f = apart_free ss s m (λ a x y. k a x (on_left (hit s m) (hits p u ms) y)) in
+    opt_is (gmove (guards ss) p s m) none _ (move_gmove (guards ss) p s u m f eu) ∙ apart_still ss p u t ms e1 (λ a x y. k a x (on_right (hit s m) (hits p u ms) y))
 
-pub still-a-run : Still-a-run
-still-a-run ss p s t ms e = (still-apart ss p s t ms, apart-still ss p s t ms e)
+pub still_a_run : StillARun
+still_a_run ss p s t ms e = (still_apart ss p s t ms, apart_still ss p s t ms e)

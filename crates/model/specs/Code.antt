@@ -46,25 +46,25 @@ abbrev pub Prog : Type 0
 Prog = List Thread
 
 -- registers below 4, numbers below 16, places below 8
-abbrev pub ok-i : I → Bool
-ok-i (sets r n) = ltb r 4 && ltb n 16
-ok-i (adds r a b) = ltb r 4 && (ltb a 4 && ltb b 4)
-ok-i (loads r x) = ltb r 4 && ltb x 8
-ok-i (stores x r) = ltb x 8 && ltb r 4
-ok-i fence = true
+abbrev pub ok_i : I → Bool
+ok_i (sets r n) = ltb r 4 && ltb n 16
+ok_i (adds r a b) = ltb r 4 && (ltb a 4 && ltb b 4)
+ok_i (loads r x) = ltb r 4 && ltb x 8
+ok_i (stores x r) = ltb x 8 && ltb r 4
+ok_i fence = true
 
-abbrev pub ok-t : Thread → Bool
-ok-t [] = true
-ok-t (i ∷ is) = ok-i i && ok-t is
+abbrev pub ok_t : Thread → Bool
+ok_t [] = true
+ok_t (i ∷ is) = ok_i i && ok_t is
 
 -- each thread has at most eight instructions
-abbrev pub ok-ts : Prog → Bool
-ok-ts [] = true
-ok-ts (t ∷ ts) = leb (length t) 8 && (ok-t t && ok-ts ts)
+abbrev pub ok_ts : Prog → Bool
+ok_ts [] = true
+ok_ts (t ∷ ts) = leb (length t) 8 && (ok_t t && ok_ts ts)
 
 -- one to four threads
 abbrev pub ok : Prog → Bool
-ok p = leb 1 (length p) && (leb (length p) 4 && ok-ts p)
+ok p = leb 1 (length p) && (leb (length p) 4 && ok_ts p)
 
 -- how many instructions a program has
 abbrev pub size : Prog → ℕ
@@ -73,23 +73,23 @@ size (t ∷ ts) = length t + size ts
 
 -- as words: how many threads; for each how many instructions, and for each of these its code and three words:
 -- 0 register number 0; 1 register first second; 2 register place 0; 3 place register 0; 4 0 0 0
-abbrev pub row-i : I → List ℕ
-row-i (sets r n) = 0 ∷ r ∷ n ∷ 0 ∷ []
-row-i (adds r a b) = 1 ∷ r ∷ a ∷ b ∷ []
-row-i (loads r x) = 2 ∷ r ∷ x ∷ 0 ∷ []
-row-i (stores x r) = 3 ∷ x ∷ r ∷ 0 ∷ []
-row-i fence = 4 ∷ 0 ∷ 0 ∷ 0 ∷ []
+abbrev pub row_i : I → List ℕ
+row_i (sets r n) = 0 ∷ r ∷ n ∷ 0 ∷ []
+row_i (adds r a b) = 1 ∷ r ∷ a ∷ b ∷ []
+row_i (loads r x) = 2 ∷ r ∷ x ∷ 0 ∷ []
+row_i (stores x r) = 3 ∷ x ∷ r ∷ 0 ∷ []
+row_i fence = 4 ∷ 0 ∷ 0 ∷ 0 ∷ []
 
-abbrev pub row-t : Thread → List ℕ
-row-t [] = []
-row-t (i ∷ is) = row-i i ++ row-t is
+abbrev pub row_t : Thread → List ℕ
+row_t [] = []
+row_t (i ∷ is) = row_i i ++ row_t is
 
-abbrev pub row-ts : Prog → List ℕ
-row-ts [] = []
-row-ts (t ∷ ts) = length t ∷ (row-t t ++ row-ts ts)
+abbrev pub row_ts : Prog → List ℕ
+row_ts [] = []
+row_ts (t ∷ ts) = length t ∷ (row_t t ++ row_ts ts)
 
 abbrev pub row : Prog → List ℕ
-row p = length p ∷ row-ts p
+row p = length p ∷ row_ts p
 
 -- the words s are the program p
 pub record Reads (s : List ℕ) (p : Prog) : Type 0 where

@@ -2,7 +2,7 @@
 use Rattle.std.specs.Prelude.{◌≡◌, ◌⊎◌, ◌&&◌, List, [], ◌∷◌, ◌++◌, ℕ, suc, ◌<◌, ◌≤◌, length, eqb}
 use Rattle.std.proofs.Math.Option.{some}
 use Rattle.model.specs.Code.{pick, nth, I, fence, Thread, Prog}
-use Rattle.model.specs.Outcomes.{Is-plain}
+use Rattle.model.specs.Outcomes.{IsPlain}
 
 -- a spot for a fence: before the instruction 'index' of thread 'thread'
 pub record Spot : Type 0 where
@@ -22,35 +22,35 @@ abbrev pub put_in : List Spot → ℕ → ℕ → Thread → Thread
 put_in ss n k [] = []
 put_in ss n k (i ∷ is) = here ss n k ++ (i ∷ put_in ss n (suc k) is)
 
-abbrev pub fenced-ts : List Spot → ℕ → Prog → Prog
-fenced-ts ss n [] = []
-fenced-ts ss n (t ∷ ts) = put_in ss n 0 t ∷ fenced-ts ss (suc n) ts
+abbrev pub fenced_ts : List Spot → ℕ → Prog → Prog
+fenced_ts ss n [] = []
+fenced_ts ss n (t ∷ ts) = put_in ss n 0 t ∷ fenced_ts ss (suc n) ts
 
 -- the program with a fence at each spot of the list
-abbrev pub with-fences : List Spot → Prog → Prog
-with-fences ss p = fenced-ts ss 0 p
+abbrev pub with_fences : List Spot → Prog → Prog
+with_fences ss p = fenced_ts ss 0 p
 
 -- in order, and so each at most once
-abbrev pub In-order : List Spot → Type 0
-In-order [] = Unit {0}
-In-order (a ∷ []) = Unit {0}
-In-order (a ∷ b ∷ ss) = Earlier a b × In-order (b ∷ ss)
+abbrev pub InOrder : List Spot → Type 0
+InOrder [] = Unit {0}
+InOrder (a ∷ []) = Unit {0}
+InOrder (a ∷ b ∷ ss) = Earlier a b × InOrder (b ∷ ss)
 
 -- one list comes before another: by the first spot that differs
 pub data First : List Spot → List Spot → Type 0 where
-  by-this : {a b : Spot} {ss ts : List Spot} → Earlier a b → First (a ∷ ss) (b ∷ ts)
-  by-rest : {a : Spot} {ss ts : List Spot} → First ss ts → First (a ∷ ss) (a ∷ ts)
+  by_this : {a b : Spot} {ss ts : List Spot} → Earlier a b → First (a ∷ ss) (b ∷ ts)
+  by_rest : {a : Spot} {ss ts : List Spot} → First ss ts → First (a ∷ ss) (a ∷ ts)
 
 -- a list of spots in order, each before an instruction of the program
 abbrev pub Placed : Prog → List Spot → Type 0
-Placed p ss = In-order ss × ((s : Spot) (a b : List Spot) → ss ≡ a ++ (s ∷ b) → (t : Thread) × (nth p s.thread ≡ some t) × (s.index < length t))
+Placed p ss = InOrder ss × ((s : Spot) (a b : List Spot) → ss ≡ a ++ (s ∷ b) → (t : Thread) × (nth p s.thread ≡ some t) × (s.index < length t))
 
 -- such a list with which the program is plain: it works
-abbrev pub Does-it : Prog → List Spot → Type 0
-Does-it p ss = In-order ss × ((s : Spot) (a b : List Spot) → ss ≡ a ++ (s ∷ b) → (t : Thread) × (nth p s.thread ≡ some t) × (s.index < length t)) × Is-plain (with-fences ss p)
+abbrev pub DoesIt : Prog → List Spot → Type 0
+DoesIt p ss = InOrder ss × ((s : Spot) (a b : List Spot) → ss ≡ a ++ (s ∷ b) → (t : Thread) × (nth p s.thread ≡ some t) × (s.index < length t)) × IsPlain (with_fences ss p)
 
 -- such a list, with none shorter, and none as short before it
 pub record Fewest (p : Prog) (ss : List Spot) : Type 0 where
-  pub does-it : Does-it p ss
-  pub fewest : (ts : List Spot) → Does-it p ts → length ss ≤ length ts
-  pub first : (ts : List Spot) → Does-it p ts → length ts ≡ length ss → First ts ss → ⊥
+  pub does_it : DoesIt p ss
+  pub fewest : (ts : List Spot) → DoesIt p ts → length ss ≤ length ts
+  pub first : (ts : List Spot) → DoesIt p ts → length ts ≡ length ss → First ts ss → ⊥

@@ -43,8 +43,8 @@ hits p s (m ∷ ms) = hit s m ++ opt (move p s m) [] (λ t. hits p t ms)
 
 -- the spot stands in the list
 pub data On (a : Spot) : List Spot → Type 0 where
-  on-first : {ss : List Spot} → On a (a ∷ ss)
-  on-more : {s : Spot} {ss : List Spot} → On a ss → On a (s ∷ ss)
+  on_first : {ss : List Spot} → On a (a ∷ ss)
+  on_more : {s : Spot} {ss : List Spot} → On a ss → On a (s ∷ ss)
 
 -- the two lists have no spot in common
 abbrev pub Apart : List Spot → List Spot → Type 0

@@ -57,8 +57,8 @@ pub data Move : Type 0 where
 abbrev pub instr : Prog → ℕ → At → Option I
 instr p n a = opt (nth p n) none (λ t. nth t a.pc)
 
-abbrev pub with-thread : St → ℕ → At → St
-with-thread s n a = record { mem = s.mem; threads = put s.threads n a }
+abbrev pub with_thread : St → ℕ → At → St
+with_thread s n a = record { mem = s.mem; threads = put s.threads n a }
 
 -- the oldest store of thread n, which stands as a says, goes to memory; none where nothing waits
 abbrev pub flushed : St → ℕ → At → List Wait → Option St
@@ -67,7 +67,7 @@ flushed s n a (w ∷ ws) = some (record { mem = put s.mem w.place w.val; threads
 
 -- one move of the machine in which stores wait; none where it can't be made
 abbrev pub move : Prog → St → Move → Option St
-move p s (next n) = opt (nth s.threads n) none (λ a. opt (instr p n a) none (λ i. opt (does s.mem a i) none (λ b. some (with-thread s n b))))
+move p s (next n) = opt (nth s.threads n) none (λ a. opt (instr p n a) none (λ i. opt (does s.mem a i) none (λ b. some (with_thread s n b))))
 move p s (out n) = opt (nth s.threads n) none (λ a. flushed s n a a.waits)
 
 -- a run: move after move
@@ -109,6 +109,6 @@ abbrev pub at_once : Prog → St → ℕ → Option St
 at_once p s n = opt (nth s.threads n) none (λ a. opt (instr p n a) none (λ i. opt (move p s (next n)) none (λ t. pick (is_store i) (move p t (out n)) (some t))))
 
 -- a run at once: the threads that do their next instruction, in turn
-abbrev pub all-at-once : Prog → St → List ℕ → Option St
-all-at-once p s [] = some s
-all-at-once p s (n ∷ ns) = opt (at_once p s n) none (λ t. all-at-once p t ns)
+abbrev pub all_at_once : Prog → St → List ℕ → Option St
+all_at_once p s [] = some s
+all_at_once p s (n ∷ ns) = opt (at_once p s n) none (λ t. all_at_once p t ns)

@@ -25,21 +25,21 @@ pub record Alone : Type 0 where
 abbrev pub at : List ℕ → ℕ → ℕ
 at rs r = opt (nth rs r) 0 (λ x. x)
 
-abbrev pub with-ev : Ev → Alone → Alone
-with-ev e a = record { regs = a.regs; evs = e ∷ a.evs; left = a.left }
+abbrev pub with_ev : Ev → Alone → Alone
+with_ev e a = record { regs = a.regs; evs = e ∷ a.evs; left = a.left }
 
 -- a read takes the first number given; 0 where none is left
-abbrev pub reads-one : List ℕ → (ℕ → List ℕ → Alone) → Alone
-reads-one [] f = f 0 []
-reads-one (v ∷ vs) f = f v vs
+abbrev pub reads_one : List ℕ → (ℕ → List ℕ → Alone) → Alone
+reads_one [] f = f 0 []
+reads_one (v ∷ vs) f = f v vs
 
 -- thread n from its k-th instruction on, with registers rs, given the numbers vs
 abbrev pub alone : ℕ → ℕ → Thread → List ℕ → List ℕ → Alone
 alone n k [] rs vs = record { regs = rs; evs = []; left = vs }
 alone n k (sets r c ∷ is) rs vs = alone n (suc k) is (put rs r c) vs
 alone n k (adds r p q ∷ is) rs vs = alone n (suc k) is (put rs r ((at rs p + at rs q) % 16)) vs
-alone n k (loads r x ∷ is) rs vs = reads-one vs (λ v ws. with-ev (record { thread = n; index = k; place = x; val = v; write = false }) (alone n (suc k) is (put rs r v) ws))
-alone n k (stores x r ∷ is) rs vs = with-ev (record { thread = n; index = k; place = x; val = at rs r; write = true }) (alone n (suc k) is rs vs)
+alone n k (loads r x ∷ is) rs vs = reads_one vs (λ v ws. with_ev (record { thread = n; index = k; place = x; val = v; write = false }) (alone n (suc k) is (put rs r v) ws))
+alone n k (stores x r ∷ is) rs vs = with_ev (record { thread = n; index = k; place = x; val = at rs r; write = true }) (alone n (suc k) is rs vs)
 alone n k (fence ∷ is) rs vs = alone n (suc k) is rs vs
 
 -- between instructions i and j of a thread stands a fence
@@ -76,15 +76,15 @@ alones n [] vss = []
 alones n (t ∷ ts) [] = alone n 0 t (replicate 4 0) [] ∷ alones (suc n) ts []
 alones n (t ∷ ts) (vs ∷ vss) = alone n 0 t (replicate 4 0) vs ∷ alones (suc n) ts vss
 
-abbrev pub evs-of : List Alone → List (List Ev)
-evs-of [] = []
-evs-of (a ∷ as₁) = a.evs ∷ evs-of as₁
+abbrev pub evs_of : List Alone → List (List Ev)
+evs_of [] = []
+evs_of (a ∷ as₁) = a.evs ∷ evs_of as₁
 
 abbrev pub regs_of : List Alone → List ℕ
 regs_of [] = []
 regs_of (a ∷ as₁) = a.regs ++ regs_of as₁
 
 -- what the writes leave in memory, done in this order
-abbrev pub writes-in : List Ev → List ℕ → List ℕ
-writes-in [] m = m
-writes-in (e ∷ es) m = writes-in es (pick e.write (put m e.place e.val) m)
+abbrev pub writes_in : List Ev → List ℕ → List ℕ
+writes_in [] m = m
+writes_in (e ∷ es) m = writes_in es (pick e.write (put m e.place e.val) m)

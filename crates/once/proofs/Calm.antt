@@ -4,20 +4,20 @@ use Rattle.std.proofs.Common.{◌≡◌, ℕ, zero, suc, true, false, ◌⊎◌,
 use mathlib.Core.Option.{Option, some, none}
 use Rattle.model.specs.Code.{nth, put, I, stores, Prog}
 use Rattle.model.specs.Machine.{Wait, At, St, next, out, done, does, flushed, move, starts, begin, is_store, at_once}
-use Rattle.model.proofs.Tools.{none-some, some_is, opt-is, nth-put-same, put-put, Next, Out, gone, rest_of, stored, next_of, of-next, of-out, once-of, of-once, store-or, does-waits, starts-fresh}
+use Rattle.model.proofs.Tools.{none_some, some_is, opt_is, nth_put_same, put_put, Next, Out, gone, rest_of, stored, next_of, of_next, of_out, once_of, of_once, store_or, does_waits, starts_fresh}
 
 -- nothing waits
-abbrev pub Calm-ts : List At → Type 0
-Calm-ts as₁ = (n : ℕ) (a : At) → nth as₁ n ≡ some a → a.waits ≡ []
+abbrev pub CalmTs : List At → Type 0
+CalmTs as₁ = (n : ℕ) (a : At) → nth as₁ n ≡ some a → a.waits ≡ []
 
 abbrev pub Calm : St → Type 0
-Calm s = Calm-ts s.threads
+Calm s = CalmTs s.threads
 
-pub calm-begin : (p : Prog) → Calm (begin p)
-calm-begin p n a e = ap (λ (z : At). z.waits) (starts-fresh p n e)
+pub calm_begin : (p : Prog) → Calm (begin p)
+calm_begin p n a e = ap (λ (z : At). z.waits) (starts_fresh p n e)
 
-calm_put : (as₁ : List At) (n : ℕ) (b : At) → Calm-ts as₁ → b.waits ≡ [] → Calm-ts (put as₁ n b)
-calm_put [] n b h e m a q = absurd (none-some q)
+calm_put : (as₁ : List At) (n : ℕ) (b : At) → CalmTs as₁ → b.waits ≡ [] → CalmTs (put as₁ n b)
+calm_put [] n b h e m a q = absurd (none_some q)
 calm_put (x ∷ as₁) zero b h e zero a q = ap (λ (z : At). z.waits) (sym (some_is q)) ∙ e
 calm_put (x ∷ as₁) zero b h e (suc m) a q = h (suc m) a q
 calm_put (x ∷ as₁) (suc n) b h e zero a q = h 0 a q
@@ -30,46 +30,46 @@ Goes_on p s n mid =
     ⊎ ((move p mid (out n) ≡ none) × (at_once p s n ≡ some mid) × Calm mid)
 
 module _ (p : Prog) (s mid : St) (n : ℕ) (calm : Calm s) (x : Next p s n mid) where
-  stands-then : nth mid.threads n ≡ some x.now
-  stands-then = ap (λ (z : St). nth z.threads n) x.gives ∙ nth-put-same s.threads n x.now x.stands
+  stands_then : nth mid.threads n ≡ some x.now
+  stands_then = ap (λ (z : St). nth z.threads n) x.gives ∙ nth_put_same s.threads n x.now x.stands
 
-  was-empty : x.was.waits ≡ []
-  was-empty = calm n x.was x.stands
+  was_empty : x.was.waits ≡ []
+  was_empty = calm n x.was x.stands
 
-  goes-out : (place r : ℕ) → x.i ≡ stores place r → Goes_on p s n mid
-  goes-out place r q =
+  goes_out : (place r : ℕ) → x.i ≡ stores place r → Goes_on p s n mid
+  goes_out place r q =
       let w = stored x.was place r in
       let u = gone mid n w (rest_of x.now []) in
       let did : some (done x.was x.was.regs (x.was.waits ++ (w ∷ []))) ≡ some x.now = subst (λ (z : I). does s.mem x.was z ≡ some x.now) q x.did in
-      let line : x.now.waits ≡ w ∷ [] = ap (λ (z : At). z.waits) (sym (some_is did)) ∙ ap (λ (z : List Wait). z ++ (w ∷ [])) was-empty in
-      let o : Out mid n u = record { was = x.now; stands = stands-then; w = w; ws = []; line = line; gives = refl } in
-      let same : put s.threads n (rest_of x.now []) ≡ u.threads = sym (ap (λ (z : St). put z.threads n (rest_of x.now [])) x.gives ∙ put-put s.threads n x.now (rest_of x.now [])) in
+      let line : x.now.waits ≡ w ∷ [] = ap (λ (z : At). z.waits) (sym (some_is did)) ∙ ap (λ (z : List Wait). z ++ (w ∷ [])) was_empty in
+      let o : Out mid n u = record { was = x.now; stands = stands_then; w = w; ws = []; line = line; gives = refl } in
+      let same : put s.threads n (rest_of x.now []) ≡ u.threads = sym (ap (λ (z : St). put z.threads n (rest_of x.now [])) x.gives ∙ put_put s.threads n x.now (rest_of x.now [])) in
       inl (
         u,
-        of-out p mid n u o,
-        of-once p s n u (record { mid = mid; first = x; then = inl (ap is_store q, o) }),
-        subst Calm-ts same (calm_put s.threads n (rest_of x.now []) calm refl),
+        of_out p mid n u o,
+        of_once p s n u (record { mid = mid; first = x; then = inl (ap is_store q, o) }),
+        subst CalmTs same (calm_put s.threads n (rest_of x.now []) calm refl),
       )
 
-  goes-not : is_store x.i ≡ false → Goes_on p s n mid
-  goes-not q =
-      let row : x.now.waits ≡ [] = does-waits s.mem x.was x.now x.i q x.did ∙ was-empty in
+  goes_not : is_store x.i ≡ false → Goes_on p s n mid
+  goes_not q =
+      let row : x.now.waits ≡ [] = does_waits s.mem x.was x.now x.i q x.did ∙ was_empty in
       inr (
-        opt-is (nth mid.threads n) none _ stands-then ∙ ap (flushed mid n x.now) row,
-        of-once p s n mid (record { mid = mid; first = x; then = inr (q, refl) }),
+        opt_is (nth mid.threads n) none _ stands_then ∙ ap (flushed mid n x.now) row,
+        of_once p s n mid (record { mid = mid; first = x; then = inr (q, refl) }),
         subst Calm (sym x.gives) (calm_put s.threads n x.now calm row),
       )
 
   goes_on : Goes_on p s n mid
-  goes_on = elim (store-or x.i) [ inl st ↦ goes-out st.0 st.1 st.2 | inr q ↦ goes-not q ]
+  goes_on = elim (store_or x.i) [ inl st ↦ goes_out st.0 st.1 st.2 | inr q ↦ goes_not q ]
 
-pub once-goes-on : (p : Prog) (s mid : St) (n : ℕ) → Calm s → move p s (next n) ≡ some mid → Goes_on p s n mid
-once-goes-on p s mid n calm e = goes_on p s mid n calm (next_of p s n mid e)
+pub once_goes_on : (p : Prog) (s mid : St) (n : ℕ) → Calm s → move p s (next n) ≡ some mid → Goes_on p s n mid
+once_goes_on p s mid n calm e = goes_on p s mid n calm (next_of p s n mid e)
 
 -- where there is no next instruction to do, there is no step at once
-pub once-stuck : (p : Prog) (s : St) (n : ℕ) → move p s (next n) ≡ none → at_once p s n ≡ none
-once-stuck p s n e = go (at_once p s n) refl
+pub once_stuck : (p : Prog) (s : St) (n : ℕ) → move p s (next n) ≡ none → at_once p s n ≡ none
+once_stuck p s n e = go (at_once p s n) refl
   where
     go : (o : Option St) → at_once p s n ≡ o → at_once p s n ≡ none
     go none f = f
-    go (some t) f = let x = once-of p s n t f in absurd (none-some (sym e ∙ of-next p s n x.mid x.first))
+    go (some t) f = let x = once_of p s n t f in absurd (none_some (sym e ∙ of_next p s n x.mid x.first))

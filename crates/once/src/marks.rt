@@ -3,7 +3,7 @@
 ghost use Rattle.std.specs.Prelude.{◌≡◌, ℕ, ◌*◌, ◌≤◌, List, length, drop};
 ghost use Rattle.program.specs.Meaning.{program};
 ghost use Rattle.explore.specs.Found.{moves_of, Explored};
-ghost use Rattle.once.specs.Once.{Marks-once};
+ghost use Rattle.once.specs.Once.{MarksOnce};
 
 use graph::rules::{Joined, Kept};
 use graph::search::search;
@@ -15,7 +15,7 @@ pub fn mark_at_once(p: &Program, edges: &[u32], n: usize, cost: &mut [u32], from
     requires held { n * moves_of (length (program p.now)) ≤ length edges.now }
     requires in_cost { n ≤ length cost.old }
     requires in_from { n ≤ length from.old }
-    ensures marks { (q : List ℕ) → Explored (program p.now) q edges.now n → Marks-once (program p.now) q n cost.new }
+    ensures marks { (q : List ℕ) → Explored (program p.now) q edges.now n → MarksOnce (program p.now) q n cost.new }
     ensures cost_behind { drop n cost.new ≡ drop n cost.old }
     ensures from_behind { drop n from.new ≡ drop n from.old }
 {

@@ -1,7 +1,7 @@
 // Threads and programs. One that exists is within the limits: one to four threads of at most eight instructions,
 // registers below 4, numbers below 16, places below 8.
 ghost use Rattle.std.specs.Prelude.{◌≡◌, ◌≤◌, T, length};
-ghost use Rattle.model.specs.Code.{ok-t};
+ghost use Rattle.model.specs.Code.{ok_t};
 ghost use Rattle.program.specs.Instructions.{instructions};
 
 use crate::instructions::Instruction;
@@ -12,7 +12,7 @@ pub struct Thread {
     pub len: usize,
     ghost eight: { length code ≡ 8 },
     ghost few: { len ≤ 8 },
-    ghost fine: { T (ok-t (instructions code len)) },
+    ghost fine: { T (ok_t (instructions code len)) },
 }
 
 #[derive(Drop)]

@@ -2,7 +2,7 @@
 // words for each of these: 0 register number 0; 1 register first second; 2 register place 0; 3 place register 0;
 // 4 0 0 0.
 ghost use Rattle.std.specs.Prelude.{◌≡◌, [], ◌∷◌, ◌++◌, length, drop, IfOk, OnOk};
-ghost use Rattle.model.specs.Code.{row-i, row-t, Reads};
+ghost use Rattle.model.specs.Code.{row_i, row_t, Reads};
 ghost use Rattle.program.specs.Instructions.{instruction};
 ghost use Rattle.program.specs.Meaning.{thread, program};
 ghost use Rattle.program.specs.Post.{InstructionRead, ThreadRead, ProgramRead};
@@ -104,7 +104,7 @@ fn empty_thread() -> Thread {
 
 // The four words of an instruction.
 pub fn instruction_to_words(i: Instruction) -> [u32; 4]
-    ensures { result ≡ row-i (instruction i) }
+    ensures { result ≡ row_i (instruction i) }
 {
     match i {
         Instruction::Set(r, n) => [0, r.0, n, 0],
@@ -117,7 +117,7 @@ pub fn instruction_to_words(i: Instruction) -> [u32; 4]
 
 // Adds a thread's words: how many instructions, and each.
 fn push_thread(words: &mut Vec<u32>, t: &Thread) -> Result<(), AllocError>
-    ensures { OnOk result (words.new.items ≡ words.old.items ++ (length (thread t.now) ∷ row-t (thread t.now))) }
+    ensures { OnOk result (words.new.items ≡ words.old.items ++ (length (thread t.now) ∷ row_t (thread t.now))) }
 {
     words.push(t.len as u32)?;
     for k in 0..t.len {

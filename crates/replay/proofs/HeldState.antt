@@ -5,44 +5,44 @@ use mathlib.Core.Logic.{∥∥₁_elim}
 use mathlib.Core.List.{is_set}
 use native.Mathlib.Bridge.{le_prop}
 use native.Mathlib.Decide.{ℕ_discrete}
-use Rattle.lent.specs.Nibbles.{All-below}
+use Rattle.lent.specs.Nibbles.{AllBelow}
 use Rattle.model.specs.Code.{Prog}
 use Rattle.model.specs.Machine.{At, St}
-use Rattle.model.proofs.Levels.{run-threads}
-use Rattle.machine.specs.Packed.{pack, Within-at, Within-ts, Within, Packs}
+use Rattle.model.proofs.Levels.{run_threads}
+use Rattle.machine.specs.Packed.{pack, WithinAt, WithinTs, Within, Packs}
 use Rattle.machine.specs.Post.{Holds}
 use Rattle.machine.proofs.Unpacking.{pack_one}
 use Rattle.replay.specs.Runs.{Reached}
 
-below-prop : (n : ℕ) (xs : List ℕ) → IsProp (All-below n xs)
-below-prop n [] = λ a b. refl
-below-prop n (x ∷ xs) = ×_prop le_prop (below-prop n xs)
+below_prop : (n : ℕ) (xs : List ℕ) → IsProp (AllBelow n xs)
+below_prop n [] = λ a b. refl
+below_prop n (x ∷ xs) = ×_prop le_prop (below_prop n xs)
 
-within-at-prop : (t : At) → IsProp (Within-at t)
-within-at-prop t a b =
+within_at_prop : (t : At) → IsProp (WithinAt t)
+within_at_prop t a b =
     λ i. record {
       four = hedberg ℕ_discrete _ _ a.four b.four i;
-      regs = below-prop _ _ a.regs b.regs i;
+      regs = below_prop _ _ a.regs b.regs i;
       few = le_prop a.few b.few i;
       held = le_prop a.held b.held i;
-      values = below-prop _ _ a.values b.values i;
-      places = below-prop _ _ a.places b.places i;
+      values = below_prop _ _ a.values b.values i;
+      places = below_prop _ _ a.places b.places i;
     }
 
-within-ts-prop : (ts : List At) → IsProp (Within-ts ts)
-within-ts-prop [] = λ a b. refl
-within-ts-prop (t ∷ ts) = ×_prop (within-at-prop t) (within-ts-prop ts)
+within_ts_prop : (ts : List At) → IsProp (WithinTs ts)
+within_ts_prop [] = λ a b. refl
+within_ts_prop (t ∷ ts) = ×_prop (within_at_prop t) (within_ts_prop ts)
 
-within-prop : (s : St) → IsProp (Within s)
-within-prop s a b =
+within_prop : (s : St) → IsProp (Within s)
+within_prop s a b =
     λ i. record {
       eight = hedberg ℕ_discrete _ _ a.eight b.eight i;
-      mem = below-prop _ _ a.mem b.mem i;
-      each = within-ts-prop s.threads a.each b.each i;
+      mem = below_prop _ _ a.mem b.mem i;
+      each = within_ts_prop s.threads a.each b.each i;
     }
 
-packs-prop : (ws : List ℕ) (s : St) → IsProp (Packs ws s)
-packs-prop ws s = ×_prop (within-prop s) (is_set (hedberg ℕ_discrete) (pack s) ws)
+packs_prop : (ws : List ℕ) (s : St) → IsProp (Packs ws s)
+packs_prop ws s = ×_prop (within_prop s) (is_set (hedberg ℕ_discrete) (pack s) ws)
 
 holds_prop : (p : Prog) (ws : List ℕ) → IsProp (Holds p ws)
 holds_prop p ws a b =
@@ -50,13 +50,13 @@ holds_prop p ws a b =
     let n = length p in
     λ i. (
       e i,
-      is_prop→PathP (λ j. Packs ws (e j)) (λ j. packs-prop ws (e j)) a.1 b.1 i,
+      is_prop→PathP (λ j. Packs ws (e j)) (λ j. packs_prop ws (e j)) a.1 b.1 i,
       is_prop→PathP (λ j. length (e j).threads ≡ n) (λ j. hedberg ℕ_discrete (length (e j).threads) n) a.2 b.2 i,
     )
 
-reached-holds : (p : Prog) (ws : List ℕ) → Reached p ws → Holds p ws
-reached-holds p ws r = let (ms, z) = r in let (s, run, k) = z in (s, k, run-threads p ms s run)
+reached_holds : (p : Prog) (ws : List ℕ) → Reached p ws → Holds p ws
+reached_holds p ws r = let (ms, z) = r in let (s, run, k) = z in (s, k, run_threads p ms s run)
 
 -- the state that some run comes to
 pub held : (p : Prog) (ws : List ℕ) → ∥ Reached p ws ∥₁ → Holds p ws
-held p ws r = ∥∥₁_elim r (holds_prop p ws) (reached-holds p ws)
+held p ws r = ∥∥₁_elim r (holds_prop p ws) (reached_holds p ws)

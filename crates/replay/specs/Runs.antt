@@ -8,11 +8,11 @@ use Rattle.machine.specs.Post.{Stepped}
 
 -- the move that a word tells: the next instruction of the thread with this number; from 4 on, the oldest store of the
 -- thread with 4 less going to memory
-abbrev pub move-told : ℕ → Move
-move-told w = pick (nat_lt w 4) (next w) (out (w - 4))
+abbrev pub move_told : ℕ → Move
+move_told w = pick (nat_lt w 4) (next w) (out (w - 4))
 
 abbrev pub told : List ℕ → List Move
-told ws = map move-told ws
+told ws = map move_told ws
 
 -- the run ms comes to the state that the words are
 abbrev pub Comes : Prog → List Move → List ℕ → Type 0
@@ -30,6 +30,6 @@ Ran p ms false ws = moves p (begin p) ms ≡ none
 -- one move more: the model's, and each run to the old state leads on by it to the new one; or it can't be made, and the
 -- state is as it was
 pub record Made (p : Prog) (w : ℕ) (ws : List ℕ) (r : Bool) (ws' : List ℕ) : Type 0 where
-  pub stepped : Stepped (λ s. move p s (move-told w)) ws r ws'
-  pub onward : (ms : List Move) → Comes p ms ws → Ran p (ms ++ move-told w ∷ []) r ws'
+  pub stepped : Stepped (λ s. move p s (move_told w)) ws r ws'
+  pub onward : (ms : List Move) → Comes p ms ws → Ran p (ms ++ move_told w ∷ []) r ws'
   pub kept : r ≡ false → ws' ≡ ws

@@ -3,7 +3,7 @@ ghost use Rattle.std.specs.Prelude.{◌≡◌, ◌+◌, ◌*◌, length};
 ghost use Rattle.model.specs.Machine.{move};
 ghost use Rattle.program.specs.Meaning.{program};
 ghost use Rattle.machine.specs.Post.{Holds, Stepped};
-ghost use Rattle.replay.specs.Runs.{move-told};
+ghost use Rattle.replay.specs.Runs.{move_told};
 
 use machine::moves::{next, out};
 use program::instructions::ThreadNumber;
@@ -15,7 +15,7 @@ pub fn step(p: &Program, word: u32, from: &[u32], to: &mut [u32]) -> bool
     requires long { length from.now ≡ 1 + 3 * p.now.count }
     requires same { length to.old ≡ length from.now }
     requires holds { Holds (program p.now) from.now }
-    ensures { Stepped (λ s. move (program p.now) s (move-told word)) from.now result to.new }
+    ensures { Stepped (λ s. move (program p.now) s (move_told word)) from.now result to.new }
 {
     let word = word as usize;
     if word < 4 {

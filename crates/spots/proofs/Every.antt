@@ -2,14 +2,14 @@
 use Rattle.std.proofs.Common.{◌≡◌, ℕ, zero, suc, ◌+◌, ◌-◌, ◌*◌, ◌/◌, ◌^◌, ◌<◌, ◌≤◌, ◌&&◌, T, leb, ◌⊎◌, List, [], ◌∷◌, ◌++◌, length, sym, refl, ap, ◌∙◌, subst, inl, inr, arith, leb→le}
 use mathlib.Core.Option.{some}
 use Rattle.std.proofs.lemmas.Bool.{cases_eq}
-use Rattle.model.specs.Code.{nth, Thread, Prog, ok, ok-t, ok-ts}
+use Rattle.model.specs.Code.{nth, Thread, Prog, ok, ok_t, ok_ts}
 use Rattle.model.specs.Fences.{Spot}
-use Rattle.model.proofs.Tools.{none-some, some_is, nth-below}
+use Rattle.model.proofs.Tools.{none_some, some_is, nth_below}
 use Rattle.program.proofs.Rows.{and_left, and_right}
 use Rattle.hitting.specs.Masks.{bit}
-use Rattle.hitting.specs.Spots.{mask-of, spots-of, Ascends, In}
-use Rattle.hitting.proofs.Theorems.{set-of-spots, has-spot}
-use Rattle.spots.specs.Masks.{spot_of, position, row, rows, every-spot}
+use Rattle.hitting.specs.Spots.{mask_of, spots_of, Ascends, In}
+use Rattle.hitting.proofs.Theorems.{set_of_spots, has_spot}
+use Rattle.spots.specs.Masks.{spot_of, position, row, rows, every_spot}
 use Rattle.spots.proofs.Positions.{Small}
 
 -- the program has an instruction at the spot
@@ -17,27 +17,27 @@ abbrev pub Inside : Prog → Spot → Type 0
 Inside p a = (t : Thread) × (nth p a.thread ≡ some t) × (a.index < length t)
 
 -- the limits
-ok_rows : (p : Prog) → T (ok p) → (length p ≤ 4) × T (ok-ts p)
+ok_rows : (p : Prog) → T (ok p) → (length p ≤ 4) × T (ok_ts p)
 ok_rows p h =
-    let g = and_right (leb 1 (length p)) (leb (length p) 4 && ok-ts p) h in
-    (leb→le (length p) 4 (and_left (leb (length p) 4) (ok-ts p) g), and_right (leb (length p) 4) (ok-ts p) g)
+    let g = and_right (leb 1 (length p)) (leb (length p) 4 && ok_ts p) h in
+    (leb→le (length p) 4 (and_left (leb (length p) 4) (ok_ts p) g), and_right (leb (length p) 4) (ok_ts p) g)
 
-ok-first : (t : Thread) (ts : Prog) → T (ok-ts (t ∷ ts)) → (length t ≤ 8) × T (ok-ts ts)
-ok-first t ts h = (
-  leb→le (length t) 8 (and_left (leb (length t) 8) (ok-t t && ok-ts ts) h),
-  and_right (ok-t t) (ok-ts ts) (and_right (leb (length t) 8) (ok-t t && ok-ts ts) h),
+ok_first : (t : Thread) (ts : Prog) → T (ok_ts (t ∷ ts)) → (length t ≤ 8) × T (ok_ts ts)
+ok_first t ts h = (
+  leb→le (length t) 8 (and_left (leb (length t) 8) (ok_t t && ok_ts ts) h),
+  and_right (ok_t t) (ok_ts ts) (and_right (leb (length t) 8) (ok_t t && ok_ts ts) h),
 )
 
-thread-short : (p : Prog) (n : ℕ) (t : Thread) → T (ok-ts p) → nth p n ≡ some t → length t ≤ 8
-thread-short [] n t h e = absurd (none-some e)
-thread-short (u ∷ us) zero t h e = subst (λ (z : Thread). length z ≤ 8) (some_is e) (ok-first u us h).0
-thread-short (u ∷ us) (suc n) t h e = thread-short us n t (ok-first u us h).1 e
+thread_short : (p : Prog) (n : ℕ) (t : Thread) → T (ok_ts p) → nth p n ≡ some t → length t ≤ 8
+thread_short [] n t h e = absurd (none_some e)
+thread_short (u ∷ us) zero t h e = subst (λ (z : Thread). length z ≤ 8) (some_is e) (ok_first u us h).0
+thread_short (u ∷ us) (suc n) t h e = thread_short us n t (ok_first u us h).1 e
 
-pub inside-small : (p : Prog) (a : Spot) → T (ok p) → Inside p a → Small a
-inside-small p a h (t, e, l) =
+pub inside_small : (p : Prog) (a : Spot) → T (ok p) → Inside p a → Small a
+inside_small p a h (t, e, l) =
     let (few, fine) = ok_rows p h in
-    let n = nth-below p a.thread e in
-    let k = thread-short p a.thread t fine e in
+    let n = nth_below p a.thread e in
+    let k = thread_short p a.thread t fine e in
     (omega arith, omega arith)
 
 -- standing in one of two lists
@@ -66,10 +66,10 @@ row_in s t zero a b = absurd (omega arith)
 row_in s t (suc l) a b = elim (cases_eq t s) [ inl e ↦ inl e | inr n ↦ inr (row_in (suc s) t l (omega arith) (omega arith)) ]
 
 -- the instruction k of thread m behind n others
-abbrev At-row : ℕ → Prog → ℕ → Type 0
-At-row n p s = (m : ℕ) × (k : ℕ) × (t : Thread) × (s ≡ 8 * (n + m) + k) × (nth p m ≡ some t) × (k < length t)
+abbrev AtRow : ℕ → Prog → ℕ → Type 0
+AtRow n p s = (m : ℕ) × (k : ℕ) × (t : Thread) × (s ≡ 8 * (n + m) + k) × (nth p m ≡ some t) × (k < length t)
 
-in_rows : (n s : ℕ) (p : Prog) → In s (rows n p) → At-row n p s
+in_rows : (n s : ℕ) (p : Prog) → In s (rows n p) → AtRow n p s
 in_rows n s [] h = absurd h
 in_rows n s (t ∷ ts) h =
     elim (in_either s (row (8 * n) (length t)) (rows (suc n) ts) h) [
@@ -78,49 +78,49 @@ in_rows n s (t ∷ ts) h =
     ]
 
 rows_in : (n m k s : ℕ) (p : Prog) (t : Thread) → s ≡ 8 * (n + m) + k → nth p m ≡ some t → k < length t → In s (rows n p)
-rows_in n m k s [] t e q l = absurd (none-some q)
+rows_in n m k s [] t e q l = absurd (none_some q)
 rows_in n zero k s (u ∷ us) t e q l =
     let w : length u ≡ length t = ap length (some_is q) in
     in_left s (row (8 * n) (length u)) (rows (suc n) us) (row_in (8 * n) s (length u) (omega arith) (omega arith))
 rows_in n (suc m) k s (u ∷ us) t e q l = in_right s (row (8 * n) (length u)) (rows (suc n) us) (rows_in (suc n) m k s us t (omega arith) q l)
 
 -- they ascend
-pub ascends-row : (d s l e : ℕ) (ps : List ℕ) → d ≤ s → s + l ≤ e → e ≤ 32 → Ascends e ps → Ascends d (row s l ++ ps)
-ascends-row d s zero e [] h w x a = tt
-ascends-row d s zero e (r ∷ ps) h w x (a, b, c) = (omega arith, b, c)
-ascends-row d s (suc l) e ps h w x a = (h, omega arith, ascends-row (suc s) (suc s) l e ps (omega arith) (omega arith) x a)
+pub ascends_row : (d s l e : ℕ) (ps : List ℕ) → d ≤ s → s + l ≤ e → e ≤ 32 → Ascends e ps → Ascends d (row s l ++ ps)
+ascends_row d s zero e [] h w x a = tt
+ascends_row d s zero e (r ∷ ps) h w x (a, b, c) = (omega arith, b, c)
+ascends_row d s (suc l) e ps h w x a = (h, omega arith, ascends_row (suc s) (suc s) l e ps (omega arith) (omega arith) x a)
 
-ascends-rows : (n : ℕ) (p : Prog) → n + length p ≤ 4 → T (ok-ts p) → Ascends (8 * n) (rows n p)
-ascends-rows n [] h f = tt
-ascends-rows n (t ∷ ts) h f =
-    let (few, fine) = ok-first t ts f in
-    ascends-row (8 * n) (8 * n) (length t) (8 * suc n) (rows (suc n) ts) (omega arith) (omega arith) (omega arith) (ascends-rows (suc n) ts (omega arith) fine)
+ascends_rows : (n : ℕ) (p : Prog) → n + length p ≤ 4 → T (ok_ts p) → Ascends (8 * n) (rows n p)
+ascends_rows n [] h f = tt
+ascends_rows n (t ∷ ts) h f =
+    let (few, fine) = ok_first t ts f in
+    ascends_row (8 * n) (8 * n) (length t) (8 * suc n) (rows (suc n) ts) (omega arith) (omega arith) (omega arith) (ascends_rows (suc n) ts (omega arith) fine)
 
-pub rows-ascend : (p : Prog) → T (ok p) → Ascends 0 (rows 0 p)
-rows-ascend p h = let (few, fine) = ok_rows p h in ascends-rows 0 p (omega arith) fine
+pub rows_ascend : (p : Prog) → T (ok p) → Ascends 0 (rows 0 p)
+rows_ascend p h = let (few, fine) = ok_rows p h in ascends_rows 0 p (omega arith) fine
 
-pub every-is : (p : Prog) → every-spot p ≡ mask-of (rows 0 p)
-unfolding every-spot
-every-is p = refl
+pub every_is : (p : Prog) → every_spot p ≡ mask_of (rows 0 p)
+unfolding every_spot
+every_is p = refl
 
 -- the bits of the mask
 module _ (p : Prog) (h : T (ok p)) where
-  pub every-small : every-spot p < 2 ^ 32
-  every-small = let e = every-is p in let (l, q) = set-of-spots (rows 0 p) (rows-ascend p h) in omega arith
+  pub every_small : every_spot p < 2 ^ 32
+  every_small = let e = every_is p in let (l, q) = set_of_spots (rows 0 p) (rows_ascend p h) in omega arith
 
-  every-rows : spots-of (every-spot p) ≡ rows 0 p
-  every-rows = ap spots-of (every-is p) ∙ (set-of-spots (rows 0 p) (rows-ascend p h)).1
+  every_rows : spots_of (every_spot p) ≡ rows 0 p
+  every_rows = ap spots_of (every_is p) ∙ (set_of_spots (rows 0 p) (rows_ascend p h)).1
 
-  pub every-bit : (a : Spot) → Inside p a → bit (every-spot p) (31 - position a) ≡ 1
-  every-bit a (t, e, l) =
+  pub every_bit : (a : Spot) → Inside p a → bit (every_spot p) (31 - position a) ≡ 1
+  every_bit a (t, e, l) =
       let i : In (position a) (rows 0 p) = rows_in 0 a.thread a.index (position a) p t (omega arith) e l in
-      ((has-spot (every-spot p) (position a) every-small).0 (subst (In (position a)) (sym every-rows) i)).1
+      ((has_spot (every_spot p) (position a) every_small).0 (subst (In (position a)) (sym every_rows) i)).1
 
-  pub bit-every : (s : ℕ) → s < 32 → bit (every-spot p) (31 - s) ≡ 1 → Inside p (spot_of s)
-  bit-every s l o =
-      let i : In s (rows 0 p) = subst (In s) every-rows ((has-spot (every-spot p) s every-small).1 (l, o)) in
+  pub bit_every : (s : ℕ) → s < 32 → bit (every_spot p) (31 - s) ≡ 1 → Inside p (spot_of s)
+  bit_every s l o =
+      let i : In s (rows 0 p) = subst (In s) every_rows ((has_spot (every_spot p) s every_small).1 (l, o)) in
       let (m, k, t, e, q, w) = in_rows 0 s p i in
       let (few, fine) = ok_rows p h in
-      let short = thread-short p m t fine q in
+      let short = thread_short p m t fine q in
       let n : m ≡ s / 8 = omega arith in
       (t, subst (λ (z : ℕ). nth p z ≡ some t) n q, omega arith)

@@ -4,7 +4,7 @@ use Rattle.std.specs.Prelude.{ℕ, zero, suc, ◌+◌, ◌-◌, ◌*◌, ◌/◌
 use Rattle.model.specs.Code.{Prog}
 use Rattle.model.specs.Fences.{Spot}
 use Rattle.hitting.specs.Masks.{bit}
-use Rattle.hitting.specs.Spots.{mask-of, spots-of}
+use Rattle.hitting.specs.Spots.{mask_of, spots_of}
 
 abbrev pub spot_of : ℕ → Spot
 spot_of s = record { thread = s / 8; index = s % 8 }
@@ -14,11 +14,11 @@ position a = 8 * a.thread + a.index
 
 -- the spots of a mask, in order
 abbrev pub spots : ℕ → List Spot
-spots x = map spot_of (spots-of x)
+spots x = map spot_of (spots_of x)
 
 -- the mask that has these spots
 abbrev pub mask : List Spot → ℕ
-mask ss = mask-of (map position ss)
+mask ss = mask_of (map position ss)
 
 -- as many positions, from s on
 abbrev pub row : ℕ → ℕ → List ℕ
@@ -31,8 +31,8 @@ rows n [] = []
 rows n (t ∷ ts) = row (8 * n) (length t) ++ rows (suc n) ts
 
 -- the mask of all spots of a program
-unfoldable pub every-spot : Prog → ℕ
-every-spot p = mask-of (rows 0 p)
+unfoldable pub every_spot : Prog → ℕ
+every_spot p = mask_of (rows 0 p)
 
 -- is the spot before instruction k of thread n one of the mask g
 abbrev pub masked : ℕ → ℕ → ℕ → Bool

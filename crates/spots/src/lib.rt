@@ -1,8 +1,8 @@
 // Lists of spots for fences as the bits of a u32: the spot before instruction k of thread n is the bit 31 - (8n + k).
 ghost use Rattle.std.specs.Prelude.{◌≡◌, ◌*◌, ◌<◌, ◌≤◌};
-ghost use Rattle.hitting.specs.Spots.{mask-of};
+ghost use Rattle.hitting.specs.Spots.{mask_of};
 ghost use Rattle.program.specs.Meaning.{program};
-ghost use Rattle.spots.specs.Masks.{row, every-spot};
+ghost use Rattle.spots.specs.Masks.{row, every_spot};
 
 use program::threads::Program;
 
@@ -10,7 +10,7 @@ use program::threads::Program;
 fn row_of(n: usize, len: usize) -> u32
     requires thread { n < 4 }
     requires few { len ≤ 8 }
-    ensures { result ≡ mask-of (row (8 * n) len) }
+    ensures { result ≡ mask_of (row (8 * n) len) }
 {
     let mut bits = 0;
     for k in 0..len {
@@ -21,7 +21,7 @@ fn row_of(n: usize, len: usize) -> u32
 
 // The bits of all spots of the program: one for each instruction.
 pub fn every_spot(p: &Program) -> u32
-    ensures { result ≡ every-spot (program p.now) }
+    ensures { result ≡ every_spot (program p.now) }
 {
     let mut bits = 0;
     for n in 0..p.count {

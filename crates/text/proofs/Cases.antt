@@ -10,17 +10,17 @@ use Rattle.text.specs.Shows.{shows}
 ln : List ℕ → List ℕ → List ℕ
 ln a rest = a ++ (10 ∷ rest)
 
-col-bas : List ℕ
+col_bas : List ℕ
 unfolding ln
-col-bas =
+col_bas =
     ln (codes "# Col Bas: both want to go")
     (ln (codes "up           | down")
     (ln (codes "r0 = 1       | r0 = 1")
     (ln (codes "[a] = r0     | [b] = r0")
     (codes "r1 = [b]     | r1 = [a]"))))
 
-read-col-bas : Listing
-read-col-bas =
+read_col_bas : Listing
+read_col_bas =
     record {
       columns =
           record { name = codes "up"; code = sets 0 1 ∷ stores 0 0 ∷ loads 1 1 ∷ [] } ∷
@@ -28,18 +28,18 @@ read-col-bas =
       places = codes "a" ∷ codes "b" ∷ [];
     }
 
-col-bas-is-read : reads col-bas ≡ some read-col-bas
-unfolding col-bas read-col-bas ln
-col-bas-is-read = refl
+col_bas_is_read : reads col_bas ≡ some read_col_bas
+unfolding col_bas read_col_bas ln
+col_bas_is_read = refl
 
 printed : List ℕ
 unfolding ln
 printed = ln (codes "up       | down") (ln (codes "r0 = 1   | r0 = 1") (ln (codes "[a] = r0 | [b] = r0") (ln (codes "r1 = [b] | r1 = [a]") [])))
 
-col-bas-is-printed : shows read-col-bas ≡ printed
-unfolding printed read-col-bas ln digits
-col-bas-is-printed = refl
+col_bas_is_printed : shows read_col_bas ≡ printed
+unfolding printed read_col_bas ln digits
+col_bas_is_printed = refl
 
-no-r4 : reads (ln (codes "up") (codes "r4 = 1")) ≡ none
+no_r4 : reads (ln (codes "up") (codes "r4 = 1")) ≡ none
 unfolding ln
-no-r4 = refl
+no_r4 = refl

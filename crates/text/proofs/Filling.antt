@@ -5,23 +5,23 @@ use Rattle.std.proofs.lemmas.Bool.{lt-ltb, le-ltb}
 use Rattle.model.specs.Code.{pick, opt, nth, put, I}
 use Rattle.text.specs.Bytes.{Word, tokens}
 use Rattle.text.specs.Grammar.{Places, Column, Page, instruction, longer, does, cell}
-use Rattle.text.proofs.Picks.{pick_true, pick-false, opt-is, opt_none}
+use Rattle.text.proofs.Picks.{pick_true, pick_false, opt_is, opt_none}
 
 module _ (ps : Places) (c : Column) where
-  pub no-tokens : (ts : List Word) → length ts ≡ 0 → does ps c ts ≡ some (ps, c)
-  no-tokens [] e = refl
-  no-tokens (t ∷ ts) e = absurd (omega arith)
+  pub no_tokens : (ts : List Word) → length ts ≡ 0 → does ps c ts ≡ some (ps, c)
+  no_tokens [] e = refl
+  no_tokens (t ∷ ts) e = absurd (omega arith)
 
   pub too_many : (ts : List Word) → 0 < length ts → 8 ≤ length c.code → does ps c ts ≡ none
   too_many [] l m = absurd (omega arith)
-  too_many (t ∷ ts) l m = pick-false _ _ (le-ltb (length c.code) 8 m)
+  too_many (t ∷ ts) l m = pick_false _ _ (le-ltb (length c.code) 8 m)
 
   abbrev with : Places × I → Option (Places × Column)
   with q = some (q.0, longer c q.1)
 
-  pub no-instruction : (ts : List Word) → 0 < length ts → instruction ps ts ≡ none → does ps c ts ≡ none
-  no-instruction [] l e = absurd (omega arith)
-  no-instruction (t ∷ ts) l e = go (ltb (length c.code) 8)
+  pub no_instruction : (ts : List Word) → 0 < length ts → instruction ps ts ≡ none → does ps c ts ≡ none
+  no_instruction [] l e = absurd (omega arith)
+  no_instruction (t ∷ ts) l e = go (ltb (length c.code) 8)
     where
       go : (b : Bool) → pick b (opt (instruction ps (t ∷ ts)) none with) none ≡ none
       go true = opt_none none with e
@@ -30,42 +30,42 @@ module _ (ps : Places) (c : Column) where
   pub one_more : (ts : List Word) (qs : Places) (i : I) → 0 < length ts → length c.code < 8 → instruction ps ts ≡ some (qs, i) → does ps c ts ≡ some (qs, longer c i)
   one_more [] qs i l m e = absurd (omega arith)
   one_more (t ∷ ts) qs i l m e =
-      pick_true _ _ (lt-ltb (length c.code) 8 m) ∙ opt-is none with e
+      pick_true _ _ (lt-ltb (length c.code) 8 m) ∙ opt_is none with e
 
-pub nth-at : {A : Type 0} (xs : List A) (k : ℕ) (d : A) → k < length xs → nth xs k ≡ some (get_or xs k d)
-nth-at [] k d l = absurd (omega arith)
-nth-at (x ∷ xs) zero d l = refl
-nth-at (x ∷ xs) (suc k) d l = nth-at xs k d (omega arith)
+pub nth_at : {A : Type 0} (xs : List A) (k : ℕ) (d : A) → k < length xs → nth xs k ≡ some (get_or xs k d)
+nth_at [] k d l = absurd (omega arith)
+nth_at (x ∷ xs) zero d l = refl
+nth_at (x ∷ xs) (suc k) d l = nth_at xs k d (omega arith)
 
 pub nth_past : {A : Type 0} (xs : List A) (k : ℕ) → length xs ≤ k → nth xs k ≡ none
 nth_past [] k l = refl
 nth_past (x ∷ xs) zero l = absurd (omega arith)
 nth_past (x ∷ xs) (suc k) l = nth_past xs k (omega arith)
 
-pub put-set : {A : Type 0} (xs : List A) (k : ℕ) (a : A) → put xs k a ≡ set xs k a
-put-set [] k a = refl
-put-set (x ∷ xs) zero a = refl
-put-set (x ∷ xs) (suc k) a = ap (λ (ys : List _). x ∷ ys) (put-set xs k a)
+pub put_set : {A : Type 0} (xs : List A) (k : ℕ) (a : A) → put xs k a ≡ set xs k a
+put_set [] k a = refl
+put_set (x ∷ xs) zero a = refl
+put_set (x ∷ xs) (suc k) a = ap (λ (ys : List _). x ∷ ys) (put_set xs k a)
 
 module _ (k : ℕ) (s : Page) (bs : List ℕ) (c : Column) (here : nth s.columns k ≡ some c) where
-  abbrev after-does : Places × Column → Option Page
-  after-does q = some (record { columns = put s.columns k q.1; places = q.0 })
+  abbrev after_does : Places × Column → Option Page
+  after_does q = some (record { columns = put s.columns k q.1; places = q.0 })
 
-  abbrev after-tokens : List Word → Option Page
-  after-tokens ts = opt (does s.places c ts) none after-does
+  abbrev after_tokens : List Word → Option Page
+  after_tokens ts = opt (does s.places c ts) none after_does
 
-  abbrev at-column : Column → Option Page
-  at-column c = opt (tokens bs) none (λ (ts : List Word). opt (does s.places c ts) none after-does)
+  abbrev at_column : Column → Option Page
+  at_column c = opt (tokens bs) none (λ (ts : List Word). opt (does s.places c ts) none after_does)
 
-  pub cell-is : (ts : List Word) (qs : Places) (d : Column) → tokens bs ≡ some ts → does s.places c ts ≡ some (qs, d) → cell k s bs ≡ some (record { columns = put s.columns k d; places = qs })
-  cell-is ts qs d e f = opt-is none at-column here ∙ opt-is none after-tokens e ∙ opt-is none after-does f
+  pub cell_is : (ts : List Word) (qs : Places) (d : Column) → tokens bs ≡ some ts → does s.places c ts ≡ some (qs, d) → cell k s bs ≡ some (record { columns = put s.columns k d; places = qs })
+  cell_is ts qs d e f = opt_is none at_column here ∙ opt_is none after_tokens e ∙ opt_is none after_does f
 
-  pub cell-not : (ts : List Word) → tokens bs ≡ some ts → does s.places c ts ≡ none → cell k s bs ≡ none
-  cell-not ts e f = opt-is none at-column here ∙ opt-is none after-tokens e ∙ opt_none none after-does f
+  pub cell_not : (ts : List Word) → tokens bs ≡ some ts → does s.places c ts ≡ none → cell k s bs ≡ none
+  cell_not ts e f = opt_is none at_column here ∙ opt_is none after_tokens e ∙ opt_none none after_does f
 
-  pub cell-no-tokens : tokens bs ≡ none → cell k s bs ≡ none
-  cell-no-tokens e = opt-is none at-column here ∙ opt_none none after-tokens e
+  pub cell_no_tokens : tokens bs ≡ none → cell k s bs ≡ none
+  cell_no_tokens e = opt_is none at_column here ∙ opt_none none after_tokens e
 
-pub cell-past : (k : ℕ) (s : Page) (bs : List ℕ) → length s.columns ≤ k → cell k s bs ≡ none
-cell-past k s bs l =
+pub cell_past : (k : ℕ) (s : Page) (bs : List ℕ) → length s.columns ≤ k → cell k s bs ≡ none
+cell_past k s bs l =
     opt_none none (λ (c : Column). opt (tokens bs) none (λ (ts : List Word). opt (does s.places c ts) none (λ (q : Places × Column). some (record { columns = put s.columns k q.1; places = q.0 })))) (nth_past s.columns k l)

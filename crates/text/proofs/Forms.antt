@@ -4,7 +4,7 @@ use mathlib.Core.Option.{Option, some, none}
 use Rattle.model.specs.Code.{pick, opt, I}
 use Rattle.text.specs.Bytes.{Word, same}
 use Rattle.text.specs.Grammar.{Places, sum, load, store, instruction}
-use Rattle.text.proofs.Picks.{pick_true, pick-false}
+use Rattle.text.proofs.Picks.{pick_true, pick_false}
 
 module _ (ps : Places) (a b c d e : Word) where
   abbrev Sum : Bool
@@ -22,14 +22,14 @@ module _ (ps : Places) (a b c d e : Word) where
   pub is_sum : Sum ≡ true → Five ≡ sum ps a c e
   is_sum f = pick_true _ _ f
 
-  pub is-load : Sum ≡ false → Load ≡ true → Five ≡ load ps a d
-  is-load f g = pick-false _ _ f ∙ pick_true _ _ g
+  pub is_load : Sum ≡ false → Load ≡ true → Five ≡ load ps a d
+  is_load f g = pick_false _ _ f ∙ pick_true _ _ g
 
   pub is_store : Sum ≡ false → Load ≡ false → Store ≡ true → Five ≡ store ps b e
-  is_store f g h = pick-false _ _ f ∙ pick-false _ _ g ∙ pick_true _ _ h
+  is_store f g h = pick_false _ _ f ∙ pick_false _ _ g ∙ pick_true _ _ h
 
   pub is_none : Sum ≡ false → Load ≡ false → Store ≡ false → Five ≡ none
-  is_none f g h = pick-false _ _ f ∙ pick-false _ _ g ∙ pick-false _ _ h
+  is_none f g h = pick_false _ _ f ∙ pick_false _ _ g ∙ pick_false _ _ h
 
 -- an instruction has one, three or five tokens
 pub other_length : (ps : Places) (ts : List Word) → (length ts ≡ 1 → ⊥) → (length ts ≡ 3 → ⊥) → (length ts ≡ 5 → ⊥) → instruction ps ts ≡ none

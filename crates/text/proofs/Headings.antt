@@ -3,60 +3,60 @@ use Rattle.std.proofs.Common.{◌≡◌, ℕ, zero, suc, ◌+◌, ◌-◌, ◌<�
 use mathlib.Core.Option.{Option, some, none}
 use Rattle.std.proofs.lemmas.Bool.{lt-ltb, le-ltb, and_from, and_left, and_right, not_from_true, not_from_false, eq-eqb, ne_eqb}
 use Rattle.model.specs.Code.{pick, opt}
-use Rattle.text.specs.Bytes.{Word, word, has, no-cr, tokens, run, all}
+use Rattle.text.specs.Bytes.{Word, word, has, no_cr, tokens, run, all}
 use Rattle.text.specs.Grammar.{Page, names, name, begin, begins}
-use Rattle.text.proofs.Picks.{pick_true, pick-false, opt-is, opt_none}
-use Rattle.text.proofs.Runs.{run-all}
+use Rattle.text.proofs.Picks.{pick_true, pick_false, opt_is, opt_none}
+use Rattle.text.proofs.Runs.{run_all}
 
-pub not-one : (ns ts : List Word) → (length ts ≡ 1 → ⊥) → name ns ts ≡ none
-not-one ns [] h = refl
-not-one ns (w ∷ []) h = absurd (h refl)
-not-one ns (w ∷ v ∷ ws) h = refl
+pub not_one : (ns ts : List Word) → (length ts ≡ 1 → ⊥) → name ns ts ≡ none
+not_one ns [] h = refl
+not_one ns (w ∷ []) h = absurd (h refl)
+not_one ns (w ∷ v ∷ ws) h = refl
 
 module _ (ns : List Word) (w : Word) where
   pub no_word : word w ≡ false → name ns (w ∷ []) ≡ none
-  no_word e = pick-false _ _ (and_left (word w) _ e)
+  no_word e = pick_false _ _ (and_left (word w) _ e)
 
   pub known : has w ns ≡ true → name ns (w ∷ []) ≡ none
-  known e = pick-false _ _ (and_right (word w) _ (and_left (not (has w ns)) _ (not_from_true _ e)))
+  known e = pick_false _ _ (and_right (word w) _ (and_left (not (has w ns)) _ (not_from_true _ e)))
 
   pub fifth : 4 ≤ length ns → name ns (w ∷ []) ≡ none
-  fifth l = pick-false _ _ (and_right (word w) _ (and_right (not (has w ns)) _ (le-ltb (length ns) 4 l)))
+  fifth l = pick_false _ _ (and_right (word w) _ (and_right (not (has w ns)) _ (le-ltb (length ns) 4 l)))
 
-  pub a-name : word w ≡ true → has w ns ≡ false → length ns < 4 → name ns (w ∷ []) ≡ some w
-  a-name e f l = pick_true _ _ (and_from (word w) _ e (and_from (not (has w ns)) _ (not_from_false _ f) (lt-ltb (length ns) 4 l)))
+  pub a_name : word w ≡ true → has w ns ≡ false → length ns < 4 → name ns (w ∷ []) ≡ some w
+  a_name e f l = pick_true _ _ (and_from (word w) _ e (and_from (not (has w ns)) _ (not_from_false _ f) (lt-ltb (length ns) 4 l)))
 
 module _ (s : Page) (c : List ℕ) (ts : List Word) (are : tokens c ≡ some ts) where
   abbrev named : List Word → Option Page
   named ts = opt (name (names s.columns) ts) none (λ (w : Word). some (begin s w))
 
-  pub begins-not : name (names s.columns) ts ≡ none → begins s c ≡ none
-  begins-not e = opt-is none named are ∙ opt_none none (λ (w : Word). some (begin s w)) e
+  pub begins_not : name (names s.columns) ts ≡ none → begins s c ≡ none
+  begins_not e = opt_is none named are ∙ opt_none none (λ (w : Word). some (begin s w)) e
 
-  pub begins-is : (w : Word) → name (names s.columns) ts ≡ some w → begins s c ≡ some (begin s w)
-  begins-is w e = opt-is none named are ∙ opt-is none (λ (w : Word). some (begin s w)) e
+  pub begins_is : (w : Word) → name (names s.columns) ts ≡ some w → begins s c ≡ some (begin s w)
+  begins_is w e = opt_is none named are ∙ opt_is none (λ (w : Word). some (begin s w)) e
 
-pub no-cr-none : (l : List ℕ) → length l ≡ 0 → l ≡ no-cr l
-no-cr-none [] e = refl
-no-cr-none (b ∷ l) e = absurd (omega arith)
+pub no_cr_none : (l : List ℕ) → length l ≡ 0 → l ≡ no_cr l
+no_cr_none [] e = refl
+no_cr_none (b ∷ l) e = absurd (omega arith)
 
-pub no-cr-off : (l : List ℕ) (n : ℕ) → suc n ≡ length l → get_or l n 0 ≡ 13 → take n l ≡ no-cr l
-no-cr-off [] n e f = absurd (omega arith)
-no-cr-off (b ∷ []) zero e f = sym (pick_true _ _ (eq-eqb b 13 f))
-no-cr-off (b ∷ []) (suc n) e f = absurd (omega arith)
-no-cr-off (b ∷ c ∷ l) zero e f = absurd (omega arith)
-no-cr-off (b ∷ c ∷ l) (suc n) e f = ap (λ (r : List ℕ). b ∷ r) (no-cr-off (c ∷ l) n (omega arith) f)
+pub no_cr_off : (l : List ℕ) (n : ℕ) → suc n ≡ length l → get_or l n 0 ≡ 13 → take n l ≡ no_cr l
+no_cr_off [] n e f = absurd (omega arith)
+no_cr_off (b ∷ []) zero e f = sym (pick_true _ _ (eq-eqb b 13 f))
+no_cr_off (b ∷ []) (suc n) e f = absurd (omega arith)
+no_cr_off (b ∷ c ∷ l) zero e f = absurd (omega arith)
+no_cr_off (b ∷ c ∷ l) (suc n) e f = ap (λ (r : List ℕ). b ∷ r) (no_cr_off (c ∷ l) n (omega arith) f)
 
-pub no-cr-on : (l : List ℕ) (n : ℕ) → suc n ≡ length l → (get_or l n 0 ≡ 13 → ⊥) → l ≡ no-cr l
-no-cr-on [] n e f = absurd (omega arith)
-no-cr-on (b ∷ []) zero e f = sym (pick-false _ _ (ne_eqb b 13 f))
-no-cr-on (b ∷ []) (suc n) e f = absurd (omega arith)
-no-cr-on (b ∷ c ∷ l) zero e f = absurd (omega arith)
-no-cr-on (b ∷ c ∷ l) (suc n) e f = ap (λ (r : List ℕ). b ∷ r) (no-cr-on (c ∷ l) n (omega arith) f)
+pub no_cr_on : (l : List ℕ) (n : ℕ) → suc n ≡ length l → (get_or l n 0 ≡ 13 → ⊥) → l ≡ no_cr l
+no_cr_on [] n e f = absurd (omega arith)
+no_cr_on (b ∷ []) zero e f = sym (pick_false _ _ (ne_eqb b 13 f))
+no_cr_on (b ∷ []) (suc n) e f = absurd (omega arith)
+no_cr_on (b ∷ c ∷ l) zero e f = absurd (omega arith)
+no_cr_on (b ∷ c ∷ l) (suc n) e f = ap (λ (r : List ℕ). b ∷ r) (no_cr_on (c ∷ l) n (omega arith) f)
 
 -- each byte passes exactly if the run goes to the end
 pub all_of : (f : ℕ → Bool) (bs : List ℕ) (n : ℕ) → n ≡ run f bs → length bs ≤ n → n ≤ length bs → all f bs ≡ true
-all_of f bs n e l m = sym (run-all f bs) ∙ eq-eqb (run f bs) (length bs) (omega arith)
+all_of f bs n e l m = sym (run_all f bs) ∙ eq-eqb (run f bs) (length bs) (omega arith)
 
-pub not-all-of : (f : ℕ → Bool) (bs : List ℕ) (n : ℕ) → n ≡ run f bs → n < length bs → all f bs ≡ false
-not-all-of f bs n e l = sym (run-all f bs) ∙ ne_eqb (run f bs) (length bs) (λ h. omega arith)
+pub not_all_of : (f : ℕ → Bool) (bs : List ℕ) (n : ℕ) → n ≡ run f bs → n < length bs → all f bs ≡ false
+not_all_of f bs n e l = sym (run_all f bs) ∙ ne_eqb (run f bs) (length bs) (λ h. omega arith)

@@ -11,14 +11,14 @@ use Rattle.text.specs.Bytes.{Word, empty, same, index_of, has}
 use Rattle.text.specs.declared.source.Thread.{Thread}
 use Rattle.text.specs.Grammar.{Column, names}
 use Rattle.text.specs.Meaning.{words, column}
-use Rattle.text.proofs.Picks.{pick_true, pick-false}
+use Rattle.text.proofs.Picks.{pick_true, pick_false}
 
-pub same-decides : (v w : Word) → Decides (same v w) (v ≡ w)
-same-decides v w = compares_Decides same (search rules) v w
+pub same_decides : (v w : Word) → Decides (same v w) (v ≡ w)
+same_decides v w = compares_Decides same (search rules) v w
 
 -- a test of equality answers as `same` does
-pub same-is : (v w : Word) (r : Bool) → Decides r (v ≡ w) → r ≡ same v w
-same-is v w r h = same_from_decides r (same v w) h (same-decides v w)
+pub same_is : (v w : Word) (r : Bool) → Decides r (v ≡ w) → r ≡ same v w
+same_is v w r h = same_from_decides r (same v w) h (same_decides v w)
 
 -- a number counted from k
 abbrev pub shift : ℕ → Option ℕ → Option ℕ
@@ -38,15 +38,15 @@ module _ (w : Word) (ws : List Word) where
   abbrev pub Upto : ℕ → Type 0
   Upto i = index_of w ws ≡ shift i (index_of w (drop i ws))
 
-  pub upto-none : Upto 0
-  upto-none = shift_zero (index_of w ws)
+  pub upto_none : Upto 0
+  upto_none = shift_zero (index_of w ws)
 
-  pub upto-more : (i : ℕ) → i < length ws → same w (get_or ws i []) ≡ false → Upto i → Upto (i + 1)
-  upto-more i l e h =
-      h ∙ ap (shift i) (at_drop_more (index_of w) ws i [] l ∙ pick-false _ _ e) ∙ shift_suc i (index_of w (drop (i + 1) ws))
+  pub upto_more : (i : ℕ) → i < length ws → same w (get_or ws i []) ≡ false → Upto i → Upto (i + 1)
+  upto_more i l e h =
+      h ∙ ap (shift i) (at_drop_more (index_of w) ws i [] l ∙ pick_false _ _ e) ∙ shift_suc i (index_of w (drop (i + 1) ws))
 
-  pub upto-found : (i : ℕ) → i < length ws → same w (get_or ws i []) ≡ true → Upto i → some i ≡ index_of w ws
-  upto-found i l e h =
+  pub upto_found : (i : ℕ) → i < length ws → same w (get_or ws i []) ≡ true → Upto i → some i ≡ index_of w ws
+  upto_found i l e h =
       sym (h ∙ ap (shift i) (at_drop_more (index_of w) ws i [] l ∙ pick_true _ _ e) ∙ ap (λ (n : ℕ). some n) (add-zero i))
 
   pub upto_all : (i : ℕ) → length ws ≤ i → Upto i → none ≡ index_of w ws
@@ -56,15 +56,15 @@ module _ (w : Word) (ws : List Word) where
 pub looked : (all : List (String Global)) (k : ℕ) (s : String Global) (bs w : Word) (r : Bool) → k < length all → s ≡ get_or all k s → bs ≡ string_bytes s → Decides r (bs ≡ w) → same w (get_or (words all) k []) ≡ r
 looked all k s bs w r l is b d =
     let e : get_or (words all) k [] ≡ bs = get_or-map string_bytes all k s [] l ∙ ap string_bytes (sym is) ∙ sym b in
-    sym (same-is w (get_or (words all) k []) r (Decides-like r (λ p. sym p ∙ sym e) (λ q. sym e ∙ sym q) d))
+    sym (same_is w (get_or (words all) k []) r (Decides-like r (λ p. sym p ∙ sym e) (λ q. sym e ∙ sym q) d))
 
-pub empty-is : {A : Type 0} (xs : List A) → eqb (length xs) 0 ≡ empty xs
-empty-is [] = refl
-empty-is (x ∷ xs) = eqb-suc-zero (length xs)
+pub empty_is : {A : Type 0} (xs : List A) → eqb (length xs) 0 ≡ empty xs
+empty_is [] = refl
+empty_is (x ∷ xs) = eqb-suc-zero (length xs)
 
 -- whether a list is empty, by the length of what it was made from
-pub empty-map : {A B : Type 0} (f : A → B) (xs : List A) (n : ℕ) → n ≡ length xs → eqb n 0 ≡ empty (map f xs)
-empty-map f xs n e = ap (λ (k : ℕ). eqb k 0) (e ∙ sym (length-map xs f)) ∙ empty-is (map f xs)
+pub empty_map : {A B : Type 0} (f : A → B) (xs : List A) (n : ℕ) → n ≡ length xs → eqb n 0 ≡ empty (map f xs)
+empty_map f xs n e = ap (λ (k : ℕ). eqb k 0) (e ∙ sym (length-map xs f)) ∙ empty_is (map f xs)
 
 -- a loop that looks for w from the front
 module _ (w : Word) (ws : List Word) where
@@ -74,15 +74,15 @@ module _ (w : Word) (ws : List Word) where
   pub has_more : (i : ℕ) → i < length ws → same w (get_or ws i []) ≡ false → Left i → Left (i + 1)
   has_more i l e h = h ∙ at_drop_more (has w) ws i [] l ∙ ap (λ (b : Bool). b || has w (drop (i + 1) ws)) e
 
-  pub has-found : (i : ℕ) → i < length ws → same w (get_or ws i []) ≡ true → Left i → true ≡ has w ws
-  has-found i l e h = sym (h ∙ at_drop_more (has w) ws i [] l ∙ ap (λ (b : Bool). b || has w (drop (i + 1) ws)) e)
+  pub has_found : (i : ℕ) → i < length ws → same w (get_or ws i []) ≡ true → Left i → true ≡ has w ws
+  has_found i l e h = sym (h ∙ at_drop_more (has w) ws i [] l ∙ ap (λ (b : Bool). b || has w (drop (i + 1) ws)) e)
 
   pub has_all : (i : ℕ) → length ws ≤ i → Left i → false ≡ has w ws
   has_all i l h = sym (h ∙ at_drop_all (has w) ws i l)
 
 -- the name of the i-th column
-pub name-at : (ts : List Thread) (i : ℕ) (t : Thread) → i < length ts → t ≡ get_or ts i t → get_or (names (map column ts)) i [] ≡ string_bytes t.name
-name-at ts i t l e =
+pub name_at : (ts : List Thread) (i : ℕ) (t : Thread) → i < length ts → t ≡ get_or ts i t → get_or (names (map column ts)) i [] ≡ string_bytes t.name
+name_at ts i t l e =
     let long = length-map ts column in
     get_or-map (λ (c : Column). c.name) (map column ts) i (column t) [] (omega arith)
     ∙ ap (λ (c : Column). c.name) (get_or-map column ts i t (column t) l ∙ ap column (sym e))

@@ -5,56 +5,56 @@ use Rattle.std.proofs.lemmas.Fmt.{decimal_digit, decimal_step}
 use Rattle.std.proofs.lemmas.Bool.{and_parts, and_from, and_left, cases_lt}
 use Rattle.std.proofs.lemmas.Bool.Decides.{nat_tests}
 use Rattle.model.specs.Code.{pick, opt}
-use Rattle.text.specs.Bytes.{Word, within, digit, letter, blank, sign, all, empty, word, same, Scan, ended, scan, tokens-on, tokens}
+use Rattle.text.specs.Bytes.{Word, within, digit, letter, blank, sign, all, empty, word, same, Scan, ended, scan, tokens_on, tokens}
 use Rattle.text.specs.Grammar.{register, number, numeral}
-use Rattle.text.specs.Shows.{show-register}
-use Rattle.text.proofs.Picks.{pick_true, pick-false}
+use Rattle.text.specs.Shows.{show_register}
+use Rattle.text.proofs.Picks.{pick_true, pick_false}
 use Rattle.text.proofs.Runs.{Stops}
-use Rattle.text.proofs.Scanning.{at, step, scan-letter, pass-blank, end-word}
+use Rattle.text.proofs.Scanning.{at, step, scan_letter, pass_blank, end_word}
 
-letters-on : (ts : List Word) (v w rest : List ℕ) → all letter w ≡ true → tokens-on (at ts v) (w ++ rest) ≡ tokens-on (at ts (v ++ w)) rest
-letters-on ts v [] rest e = ap (λ (u : Word). tokens-on (at ts u) rest) (sym (append-nil v))
-letters-on ts v (b ∷ w) rest e =
+letters_on : (ts : List Word) (v w rest : List ℕ) → all letter w ≡ true → tokens_on (at ts v) (w ++ rest) ≡ tokens_on (at ts (v ++ w)) rest
+letters_on ts v [] rest e = ap (λ (u : Word). tokens_on (at ts u) rest) (sym (append-nil v))
+letters_on ts v (b ∷ w) rest e =
     let p = and_parts (letter b) (all letter w) e in
-    step (at ts v) (at ts (v ++ b ∷ [])) b (w ++ rest) (scan-letter (at ts v) b p.0)
-    ∙ letters-on ts (v ++ b ∷ []) w rest p.1
-    ∙ ap (λ (u : Word). tokens-on (at ts u) rest) (append_assoc v (b ∷ []) w)
+    step (at ts v) (at ts (v ++ b ∷ [])) b (w ++ rest) (scan_letter (at ts v) b p.0)
+    ∙ letters_on ts (v ++ b ∷ []) w rest p.1
+    ∙ ap (λ (u : Word). tokens_on (at ts u) rest) (append_assoc v (b ∷ []) w)
 
 -- a word, and then something else
-pub spell-word : (ts : List Word) (w rest : List ℕ) → word w ≡ true → Stops letter rest → tokens-on (at ts []) (w ++ rest) ≡ tokens-on (at (ts ++ w ∷ []) []) rest
-spell-word ts [] rest e h = absurd (let z : ◌≡◌ {A = ℕ} 0 1 = cc in omega arith)
-spell-word ts (b ∷ w) rest e h = letters-on ts [] (b ∷ w) rest e ∙ end-word ts b w rest h
+pub spell_word : (ts : List Word) (w rest : List ℕ) → word w ≡ true → Stops letter rest → tokens_on (at ts []) (w ++ rest) ≡ tokens_on (at (ts ++ w ∷ []) []) rest
+spell_word ts [] rest e h = absurd (let z : ◌≡◌ {A = ℕ} 0 1 = cc in omega arith)
+spell_word ts (b ∷ w) rest e h = letters_on ts [] (b ∷ w) rest e ∙ end_word ts b w rest h
 
-pub spell_last : (ts : List Word) (w : Word) → word w ≡ true → tokens-on (at ts []) w ≡ some (ts ++ w ∷ [])
-spell_last ts w e = ap (tokens-on (at ts [])) (sym (append-nil w)) ∙ spell-word ts w [] e tt
+pub spell_last : (ts : List Word) (w : Word) → word w ≡ true → tokens_on (at ts []) w ≡ some (ts ++ w ∷ [])
+spell_last ts w e = ap (tokens_on (at ts [])) (sym (append-nil w)) ∙ spell_word ts w [] e tt
 
 -- blanks behind a cell say nothing
-blanks-end : (s : Scan) (n : ℕ) → tokens-on s (replicate n 32) ≡ some (ended s.found s.begun)
-blanks-end s zero = refl
-blanks-end s (suc n) = blanks-end (at (ended s.found s.begun) []) n
+blanks_end : (s : Scan) (n : ℕ) → tokens_on s (replicate n 32) ≡ some (ended s.found s.begun)
+blanks_end s zero = refl
+blanks_end s (suc n) = blanks_end (at (ended s.found s.begun) []) n
 
-pub trailing : (s : Scan) (c : List ℕ) (n : ℕ) → tokens-on s (c ++ replicate n 32) ≡ tokens-on s c
-trailing s [] n = blanks-end s n
+pub trailing : (s : Scan) (c : List ℕ) (n : ℕ) → tokens_on s (c ++ replicate n 32) ≡ tokens_on s c
+trailing s [] n = blanks_end s n
 trailing s (b ∷ c) n = go (scan s b) (λ t. trailing t c n)
   where
-    go : (o : Option Scan) → ((t : Scan) → tokens-on t (c ++ replicate n 32) ≡ tokens-on t c) → opt o none (λ (t : Scan). tokens-on t (c ++ replicate n 32)) ≡ opt o none (λ (t : Scan). tokens-on t c)
+    go : (o : Option Scan) → ((t : Scan) → tokens_on t (c ++ replicate n 32) ≡ tokens_on t c) → opt o none (λ (t : Scan). tokens_on t (c ++ replicate n 32)) ≡ opt o none (λ (t : Scan). tokens_on t c)
     go none h = refl
     go (some t) h = h t
 
 -- a word is no sign
-pub word-no-sign : (w : Word) (b : ℕ) → word w ≡ true → sign b ≡ true → same w (b ∷ []) ≡ false
-word-no-sign [] b e f = refl
-word-no-sign (c ∷ w) b e f = and_left (eqb c b) (same w []) (no_sign c (and_parts (letter c) (all letter w) e).0)
+pub word_no_sign : (w : Word) (b : ℕ) → word w ≡ true → sign b ≡ true → same w (b ∷ []) ≡ false
+word_no_sign [] b e f = refl
+word_no_sign (c ∷ w) b e f = and_left (eqb c b) (same w []) (no_sign c (and_parts (letter c) (all letter w) e).0)
   where
     no_sign : (c : ℕ) → letter c ≡ true → eqb c b ≡ false
     no_sign c g = grind (arith, nat_tests)
 
 -- numbers as they are printed
-digit-letter : (b : ℕ) → b < 10 → letter (48 + b) ≡ true
-digit-letter b l = grind (arith, nat_tests)
+digit_letter : (b : ℕ) → b < 10 → letter (48 + b) ≡ true
+digit_letter b l = grind (arith, nat_tests)
 
-one-digit : (n : ℕ) → n < 10 → word (decimal n) ≡ true
-one-digit n l = ap word (decimal_digit n l) ∙ and_from (letter (48 + n)) true (digit-letter n l) refl
+one_digit : (n : ℕ) → n < 10 → word (decimal n) ≡ true
+one_digit n l = ap word (decimal_digit n l) ∙ and_from (letter (48 + n)) true (digit_letter n l) refl
 
 two_digits : (n : ℕ) → 10 ≤ n → n < 16 → decimal n ≡ 49 ∷ (38 + n) ∷ []
 two_digits n l m =
@@ -63,7 +63,7 @@ two_digits n l m =
     decimal_step n l (omega arith) ∙ (λ i. decimal (e i) ++ d i ∷ []) ∙ ap (λ (ds : List ℕ). ds ++ (38 + n) ∷ []) (decimal_digit 1 (omega arith))
 
 pub number_word : (n : ℕ) → n < 16 → word (decimal n) ≡ true
-number_word n l = ⊎_elim (one-digit n) (λ m. ap word (two_digits n m l) ∙ and_from (letter (38 + n)) true (second m) refl) (cases_lt n 10)
+number_word n l = ⊎_elim (one_digit n) (λ m. ap word (two_digits n m l) ∙ and_from (letter (38 + n)) true (second m) refl) (cases_lt n 10)
   where
     second : 10 ≤ n → letter (38 + n) ≡ true
     second m = grind (arith, nat_tests)
@@ -87,23 +87,23 @@ number_read n l =
     after : (n : ℕ) → 38 + n - 38 ≡ n
     after n = omega arith
 
-pub register-word : (r : ℕ) → r < 4 → word (show-register r) ≡ true
-register-word r l = ap (λ (ds : List ℕ). word (114 ∷ ds)) (decimal_digit r (omega arith)) ∙ and_from (letter (48 + r)) true (digit-letter r (omega arith)) refl
+pub register_word : (r : ℕ) → r < 4 → word (show_register r) ≡ true
+register_word r l = ap (λ (ds : List ℕ). word (114 ∷ ds)) (decimal_digit r (omega arith)) ∙ and_from (letter (48 + r)) true (digit_letter r (omega arith)) refl
 
-pub register-read : (r : ℕ) → r < 4 → register (show-register r) ≡ some r
-register-read r l = ap (λ (ds : List ℕ). register (114 ∷ ds)) (decimal_digit r (omega arith)) ∙ pick_true _ _ small ∙ ap (λ (k : ℕ). some k) (back r)
+pub register_read : (r : ℕ) → r < 4 → register (show_register r) ≡ some r
+register_read r l = ap (λ (ds : List ℕ). register (114 ∷ ds)) (decimal_digit r (omega arith)) ∙ pick_true _ _ small ∙ ap (λ (k : ℕ). some k) (back r)
   where
     small : within 48 51 (48 + r) ≡ true
     small = grind (arith, nat_tests)
 
-pub numeral-digits : (x : ℕ) → x < 8 → all digit (decimal x) ≡ true
-numeral-digits x l = ap (all digit) (decimal_digit x (omega arith)) ∙ and_from (digit (48 + x)) true small refl
+pub numeral_digits : (x : ℕ) → x < 8 → all digit (decimal x) ≡ true
+numeral_digits x l = ap (all digit) (decimal_digit x (omega arith)) ∙ and_from (digit (48 + x)) true small refl
   where
     small : digit (48 + x) ≡ true
     small = grind (arith, nat_tests)
 
-pub numeral-read : (x : ℕ) → x < 8 → numeral (decimal x) ≡ some x
-numeral-read x l = ap numeral (decimal_digit x (omega arith)) ∙ pick_true _ _ small ∙ ap (λ (k : ℕ). some k) (back x)
+pub numeral_read : (x : ℕ) → x < 8 → numeral (decimal x) ≡ some x
+numeral_read x l = ap numeral (decimal_digit x (omega arith)) ∙ pick_true _ _ small ∙ ap (λ (k : ℕ). some k) (back x)
   where
     small : within 48 55 (48 + x) ≡ true
     small = grind (arith, nat_tests)

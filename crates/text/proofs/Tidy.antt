@@ -5,9 +5,9 @@ use Rattle.std.proofs.lemmas.List.{take_all}
 use Rattle.std.proofs.lemmas.Bool.{and_parts, and_from, eq-eqb, not-true}
 use Rattle.std.proofs.lemmas.Bool.Decides.{nat_tests}
 use Rattle.model.specs.Code.{pick}
-use Rattle.text.specs.Bytes.{letter, blank, sign, plain, all, but, run, cut, pieces, before, no-cr}
+use Rattle.text.specs.Bytes.{letter, blank, sign, plain, all, but, run, cut, pieces, before, no_cr}
 use Rattle.text.specs.Shows.{spaced}
-use Rattle.text.proofs.Picks.{pick_true, pick-false}
+use Rattle.text.proofs.Picks.{pick_true, pick_false}
 use Rattle.text.proofs.Runs.{run_on}
 
 -- what cells are made of: letters, blanks and signs
@@ -30,67 +30,67 @@ pub all_replicate : (f : ℕ → Bool) (n b : ℕ) → f b ≡ true → all f (r
 all_replicate f zero b e = refl
 all_replicate f (suc n) b e = and_from (f b) (all f (replicate n b)) e (all_replicate f n b e)
 
-letter-tidy : (b : ℕ) → letter b ≡ true → tidy b ≡ true
-letter-tidy b e = grind (arith, nat_tests)
+letter_tidy : (b : ℕ) → letter b ≡ true → tidy b ≡ true
+letter_tidy b e = grind (arith, nat_tests)
 
-pub word-tidy : (w : List ℕ) → all letter w ≡ true → all tidy w ≡ true
-word-tidy = all_weaker letter tidy letter-tidy
+pub word_tidy : (w : List ℕ) → all letter w ≡ true → all tidy w ≡ true
+word_tidy = all_weaker letter tidy letter_tidy
 
-tidy-lined : (b : ℕ) → tidy b ≡ true → lined b ≡ true
-tidy-lined b e = grind (arith, nat_tests)
+tidy_lined : (b : ℕ) → tidy b ≡ true → lined b ≡ true
+tidy_lined b e = grind (arith, nat_tests)
 
-pub lined-from : (w : List ℕ) → all tidy w ≡ true → all lined w ≡ true
-lined-from = all_weaker tidy lined tidy-lined
+pub lined_from : (w : List ℕ) → all tidy w ≡ true → all lined w ≡ true
+lined_from = all_weaker tidy lined tidy_lined
 
-tidy-no-bar : (b : ℕ) → tidy b ≡ true → but 124 b ≡ true
-tidy-no-bar b e = grind (arith, nat_tests)
+tidy_no_bar : (b : ℕ) → tidy b ≡ true → but 124 b ≡ true
+tidy_no_bar b e = grind (arith, nat_tests)
 
-pub no-bar : (w : List ℕ) → all tidy w ≡ true → all (but 124) w ≡ true
-no-bar = all_weaker tidy (but 124) tidy-no-bar
+pub no_bar : (w : List ℕ) → all tidy w ≡ true → all (but 124) w ≡ true
+no_bar = all_weaker tidy (but 124) tidy_no_bar
 
-lined-plain : (b : ℕ) → lined b ≡ true → plain b ≡ true
-lined-plain b e = grind (arith, nat_tests)
+lined_plain : (b : ℕ) → lined b ≡ true → plain b ≡ true
+lined_plain b e = grind (arith, nat_tests)
 
-lined-no-end : (b : ℕ) → lined b ≡ true → but 10 b ≡ true
-lined-no-end b e = grind (arith, nat_tests)
+lined_no_end : (b : ℕ) → lined b ≡ true → but 10 b ≡ true
+lined_no_end b e = grind (arith, nat_tests)
 
-lined-no-cr : (b : ℕ) → lined b ≡ true → but 13 b ≡ true
-lined-no-cr b e = grind (arith, nat_tests)
+lined_no_cr : (b : ℕ) → lined b ≡ true → but 13 b ≡ true
+lined_no_cr b e = grind (arith, nat_tests)
 
-lined-no-hash : (b : ℕ) → lined b ≡ true → but 35 b ≡ true
-lined-no-hash b e = grind (arith, nat_tests)
+lined_no_hash : (b : ℕ) → lined b ≡ true → but 35 b ≡ true
+lined_no_hash b e = grind (arith, nat_tests)
 
-run-whole : (f : ℕ → Bool) (bs : List ℕ) → all f bs ≡ true → run f bs ≡ length bs
-run-whole f [] e = refl
-run-whole f (b ∷ bs) e = let p = and_parts (f b) (all f bs) e in run_on f b bs p.0 ∙ ap suc (run-whole f bs p.1)
+run_whole : (f : ℕ → Bool) (bs : List ℕ) → all f bs ≡ true → run f bs ≡ length bs
+run_whole f [] e = refl
+run_whole f (b ∷ bs) e = let p = and_parts (f b) (all f bs) e in run_on f b bs p.0 ∙ ap suc (run_whole f bs p.1)
 
-pub before-whole : (s : ℕ) (bs : List ℕ) → all (but s) bs ≡ true → before s bs ≡ bs
-before-whole s bs e = ap (λ (n : ℕ). take n bs) (run-whole (but s) bs e) ∙ take_all (length bs) bs (omega arith)
+pub before_whole : (s : ℕ) (bs : List ℕ) → all (but s) bs ≡ true → before s bs ≡ bs
+before_whole s bs e = ap (λ (n : ℕ). take n bs) (run_whole (but s) bs e) ∙ take_all (length bs) bs (omega arith)
 
-no-cr-whole : (bs : List ℕ) → all (but 13) bs ≡ true → no-cr bs ≡ bs
-no-cr-whole [] e = refl
-no-cr-whole (b ∷ []) e = pick-false _ _ (not-true (eqb b 13) (and_parts (but 13 b) true e).0)
-no-cr-whole (b ∷ c ∷ bs) e = ap (λ (r : List ℕ). b ∷ r) (no-cr-whole (c ∷ bs) (and_parts (but 13 b) (all (but 13) (c ∷ bs)) e).1)
+no_cr_whole : (bs : List ℕ) → all (but 13) bs ≡ true → no_cr bs ≡ bs
+no_cr_whole [] e = refl
+no_cr_whole (b ∷ []) e = pick_false _ _ (not-true (eqb b 13) (and_parts (but 13 b) true e).0)
+no_cr_whole (b ∷ c ∷ bs) e = ap (λ (r : List ℕ). b ∷ r) (no_cr_whole (c ∷ bs) (and_parts (but 13 b) (all (but 13) (c ∷ bs)) e).1)
 
 module _ (bs : List ℕ) (e : all lined bs ≡ true) where
-  pub line_plain : all plain (no-cr bs) ≡ true
-  line_plain = ap (all plain) (no-cr-whole bs (all_weaker lined (but 13) lined-no-cr bs e)) ∙ all_weaker lined plain lined-plain bs e
+  pub line_plain : all plain (no_cr bs) ≡ true
+  line_plain = ap (all plain) (no_cr_whole bs (all_weaker lined (but 13) lined_no_cr bs e)) ∙ all_weaker lined plain lined_plain bs e
 
-  pub line-content : before 35 (no-cr bs) ≡ bs
-  line-content = ap (before 35) (no-cr-whole bs (all_weaker lined (but 13) lined-no-cr bs e)) ∙ before-whole 35 bs (all_weaker lined (but 35) lined-no-hash bs e)
+  pub line_content : before 35 (no_cr bs) ≡ bs
+  line_content = ap (before 35) (no_cr_whole bs (all_weaker lined (but 13) lined_no_cr bs e)) ∙ before_whole 35 bs (all_weaker lined (but 35) lined_no_hash bs e)
 
-  pub no-line-end : all (but 10) bs ≡ true
-  no-line-end = all_weaker lined (but 10) lined-no-end bs e
+  pub no_line_end : all (but 10) bs ≡ true
+  no_line_end = all_weaker lined (but 10) lined_no_end bs e
 
 -- cut where the separator stands
-pub pieces-at : (s : ℕ) (p rest : List ℕ) → all (but s) p ≡ true → pieces s (p ++ s ∷ rest) ≡ p ∷ pieces s rest
-pieces-at s [] rest e = ap (λ (t : Bool). cut t s (pieces s rest)) (eq-eqb s s refl)
-pieces-at s (b ∷ p) rest e =
+pub pieces_at : (s : ℕ) (p rest : List ℕ) → all (but s) p ≡ true → pieces s (p ++ s ∷ rest) ≡ p ∷ pieces s rest
+pieces_at s [] rest e = ap (λ (t : Bool). cut t s (pieces s rest)) (eq-eqb s s refl)
+pieces_at s (b ∷ p) rest e =
     let q = and_parts (but s b) (all (but s) p) e in
-    ap (λ (t : Bool). cut t b (pieces s (p ++ s ∷ rest))) (not-true (eqb b s) q.0) ∙ ap (cut false b) (pieces-at s p rest q.1)
+    ap (λ (t : Bool). cut t b (pieces s (p ++ s ∷ rest))) (not-true (eqb b s) q.0) ∙ ap (cut false b) (pieces_at s p rest q.1)
 
-pub pieces-one : (s : ℕ) (p : List ℕ) → all (but s) p ≡ true → pieces s p ≡ p ∷ []
-pieces-one s [] e = refl
-pieces-one s (b ∷ p) e =
+pub pieces_one : (s : ℕ) (p : List ℕ) → all (but s) p ≡ true → pieces s p ≡ p ∷ []
+pieces_one s [] e = refl
+pieces_one s (b ∷ p) e =
     let q = and_parts (but s b) (all (but s) p) e in
-    ap (λ (t : Bool). cut t b (pieces s p)) (not-true (eqb b s) q.0) ∙ ap (cut false b) (pieces-one s p q.1)
+    ap (λ (t : Bool). cut t b (pieces s p)) (not-true (eqb b s) q.0) ∙ ap (cut false b) (pieces_one s p q.1)

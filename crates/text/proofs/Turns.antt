@@ -6,33 +6,33 @@ use Rattle.std.proofs.lemmas.Bool.{cases_lt}
 use Rattle.model.specs.Code.{opt}
 use Rattle.text.specs.Bytes.{run, but, pieces, before}
 use Rattle.text.specs.Grammar.{Page, cell, row, each}
-use Rattle.text.proofs.Picks.{opt-is, opt_none}
-use Rattle.text.proofs.Runs.{pieces-cut, pieces-last}
+use Rattle.text.proofs.Picks.{opt_is, opt_none}
+use Rattle.text.proofs.Runs.{pieces_cut, pieces_last}
 
 module _ (sep : ℕ) (rest piece : List ℕ) (n : ℕ) (here : n ≡ run (but sep) rest) (is : piece ≡ take n rest) where
   pub cut_off : n < length rest → pieces sep rest ≡ piece ∷ pieces sep (drop (n + 1) rest)
   cut_off l =
-      pieces-cut sep rest (subst (λ (m : ℕ). m < length rest) here l)
+      pieces_cut sep rest (subst (λ (m : ℕ). m < length rest) here l)
       ∙ ap (λ (m : ℕ). take m rest ∷ pieces sep (drop (m + 1) rest)) (sym here)
       ∙ ap (λ (p : List ℕ). p ∷ pieces sep (drop (n + 1) rest)) (sym is)
 
-  pub whole-piece : length rest ≤ n → pieces sep rest ≡ piece ∷ []
-  whole-piece l =
-      pieces-last sep rest (subst (λ (m : ℕ). length rest ≤ m) here l) ∙ ap (λ (p : List ℕ). p ∷ []) (sym (is ∙ take_all n rest l))
+  pub whole_piece : length rest ≤ n → pieces sep rest ≡ piece ∷ []
+  whole_piece l =
+      pieces_last sep rest (subst (λ (m : ℕ). length rest ≤ m) here l) ∙ ap (λ (p : List ℕ). p ∷ []) (sym (is ∙ take_all n rest l))
 
   module _ {S R : Type 0} (F : S → List (List ℕ) → Option R) (f : S → List ℕ → Option S) (on : (s : S) (p : List ℕ) (ps : List (List ℕ)) → F s (p ∷ ps) ≡ opt (f s p) none (λ (t : S). F t ps)) (s : S) where
     pub turn_more : (t : S) → n < length rest → f s piece ≡ some t → F s (pieces sep rest) ≡ F t (pieces sep (drop (n + 1) rest))
     turn_more t l e =
-        ap (F s) (cut_off l) ∙ on s piece (pieces sep (drop (n + 1) rest)) ∙ opt-is none (λ (t : S). F t (pieces sep (drop (n + 1) rest))) e
+        ap (F s) (cut_off l) ∙ on s piece (pieces sep (drop (n + 1) rest)) ∙ opt_is none (λ (t : S). F t (pieces sep (drop (n + 1) rest))) e
 
     pub turn_last : (t : S) → length rest ≤ n → f s piece ≡ some t → F s (pieces sep rest) ≡ F t []
-    turn_last t l e = ap (F s) (whole-piece l) ∙ on s piece [] ∙ opt-is none (λ (t : S). F t []) e
+    turn_last t l e = ap (F s) (whole_piece l) ∙ on s piece [] ∙ opt_is none (λ (t : S). F t []) e
 
-    pub turn-none : f s piece ≡ none → F s (pieces sep rest) ≡ none
-    turn-none e =
+    pub turn_none : f s piece ≡ none → F s (pieces sep rest) ≡ none
+    turn_none e =
         ⊎_elim
         (λ l. ap (F s) (cut_off l) ∙ on s piece (pieces sep (drop (n + 1) rest)) ∙ opt_none none (λ (t : S). F t (pieces sep (drop (n + 1) rest))) e)
-        (λ l. ap (F s) (whole-piece l) ∙ on s piece [] ∙ opt_none none (λ (t : S). F t []) e)
+        (λ l. ap (F s) (whole_piece l) ∙ on s piece [] ∙ opt_none none (λ (t : S). F t []) e)
         (cases_lt n (length rest))
 
   module _ (f : Page → List ℕ → Option Page) (s : Page) where
@@ -43,7 +43,7 @@ module _ (sep : ℕ) (rest piece : List ℕ) (n : ℕ) (here : n ≡ run (but se
     each_last = turn_last (each f) f (λ s p ps. refl) s
 
     pub each_none : f s piece ≡ none → each f s (pieces sep rest) ≡ none
-    each_none = turn-none (each f) f (λ s p ps. refl) s
+    each_none = turn_none (each f) f (λ s p ps. refl) s
 
   -- a row's state is the number of the column with the page
   abbrev Row : ℕ × Page → List (List ℕ) → Option Page
@@ -62,11 +62,11 @@ module _ (sep : ℕ) (rest piece : List ℕ) (n : ℕ) (here : n ≡ run (but se
   module _ (k : ℕ) (s : Page) where
     pub row_more : (t : Page) → n < length rest → cell k s piece ≡ some t → row k s (pieces sep rest) ≡ row (k + 1) t (pieces sep (drop (n + 1) rest))
     row_more t l e =
-        turn_more Row one_cell row_on (k, s) (suc k, t) l (opt-is none (λ (t : Page). some (suc k, t)) e)
+        turn_more Row one_cell row_on (k, s) (suc k, t) l (opt_is none (λ (t : Page). some (suc k, t)) e)
         ∙ ap (λ (j : ℕ). row j t (pieces sep (drop (n + 1) rest))) (sym (add-one k))
 
     pub row_last : (t : Page) → length rest ≤ n → cell k s piece ≡ some t → row k s (pieces sep rest) ≡ some t
-    row_last t l e = turn_last Row one_cell row_on (k, s) (suc k, t) l (opt-is none (λ (t : Page). some (suc k, t)) e)
+    row_last t l e = turn_last Row one_cell row_on (k, s) (suc k, t) l (opt_is none (λ (t : Page). some (suc k, t)) e)
 
-    pub row-none : cell k s piece ≡ none → row k s (pieces sep rest) ≡ none
-    row-none e = turn-none Row one_cell row_on (k, s) (opt_none none (λ (t : Page). some (suc k, t)) e)
+    pub row_none : cell k s piece ≡ none → row k s (pieces sep rest) ≡ none
+    row_none e = turn_none Row one_cell row_on (k, s) (opt_none none (λ (t : Page). some (suc k, t)) e)

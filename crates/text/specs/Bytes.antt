@@ -83,10 +83,10 @@ abbrev pub before : ℕ → List ℕ → List ℕ
 before s bs = take (run (but s) bs) bs
 
 -- a line without the CR that it may end in
-abbrev pub no-cr : List ℕ → List ℕ
-no-cr [] = []
-no-cr (b ∷ []) = pick (b == 13) [] (b ∷ [])
-no-cr (b ∷ c ∷ bs) = b ∷ no-cr (c ∷ bs)
+abbrev pub no_cr : List ℕ → List ℕ
+no_cr [] = []
+no_cr (b ∷ []) = pick (b == 13) [] (b ∷ [])
+no_cr (b ∷ c ∷ bs) = b ∷ no_cr (c ∷ bs)
 
 -- tokens found so far, and the letters of a word that has begun
 pub record Scan : Type 0 where
@@ -105,10 +105,10 @@ scan s b =
     (pick (blank b) (some (record { found = ended s.found s.begun; begun = [] }))
     (pick (sign b) (some (record { found = ended s.found s.begun ++ (b ∷ []) ∷ []; begun = [] })) none))
 
-abbrev pub tokens-on : Scan → List ℕ → Option (List Word)
-tokens-on s [] = some (ended s.found s.begun)
-tokens-on s (b ∷ bs) = opt (scan s b) none (λ s. tokens-on s bs)
+abbrev pub tokens_on : Scan → List ℕ → Option (List Word)
+tokens_on s [] = some (ended s.found s.begun)
+tokens_on s (b ∷ bs) = opt (scan s b) none (λ s. tokens_on s bs)
 
 -- the words and signs of a text; none where another byte comes
 abbrev pub tokens : List ℕ → Option (List Word)
-tokens bs = tokens-on (record { found = []; begun = [] }) bs
+tokens bs = tokens_on (record { found = []; begun = [] }) bs

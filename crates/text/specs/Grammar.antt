@@ -5,7 +5,7 @@
 use Rattle.std.specs.Prelude.{ℕ, zero, suc, ◌-◌, Bool, true, false, not, ◌&&◌, List, [], ◌∷◌, ◌++◌, map, length, codes, ◌==◌, nat_lt}
 use Rattle.std.proofs.Math.Option.{Option, some, none}
 use Rattle.model.specs.Code.{pick, opt, nth, put, I, sets, adds, loads, stores, fence, Thread, Prog}
-use Rattle.text.specs.Bytes.{Word, within, digit, blank, plain, all, empty, word, same, index_of, has, pieces, before, no-cr, tokens}
+use Rattle.text.specs.Bytes.{Word, within, digit, blank, plain, all, empty, word, same, index_of, has, pieces, before, no_cr, tokens}
 
 -- a thread with its name
 pub record Column : Type 0 where
@@ -55,8 +55,8 @@ numeral (b ∷ []) = pick (within 48 55 b) (some (b - 48)) none
 numeral (b ∷ c ∷ w) = none
 
 -- a place by its numeral, unless places are named by words
-abbrev pub by-numeral : Places → Word → Option (Places × ℕ)
-by-numeral ps w = pick (empty ps.words) (opt (numeral w) none (λ x. some (record { numerals = true; words = ps.words }, x))) none
+abbrev pub by_numeral : Places → Word → Option (Places × ℕ)
+by_numeral ps w = pick (empty ps.words) (opt (numeral w) none (λ x. some (record { numerals = true; words = ps.words }, x))) none
 
 -- a place by its word, unless places are named by numerals: the one of that name, else the next, of eight
 abbrev pub by_word : Places → Word → Option (Places × ℕ)
@@ -68,7 +68,7 @@ by_word ps w =
 
 -- a word of digits alone is a numeral
 abbrev pub place : Places → Word → Option (Places × ℕ)
-place ps w = pick (word w) (pick (all digit w) (by-numeral ps w) (by_word ps w)) none
+place ps w = pick (word w) (pick (all digit w) (by_numeral ps w) (by_word ps w)) none
 
 -- r1 = r2 + r3
 abbrev pub sum : Places → Word → Word → Word → Option (Places × I)
@@ -145,10 +145,10 @@ content s c = pick (all blank c) (some s) (pick (empty s.columns) (each begins s
 
 -- a line: text throughout; `#` begins a comment
 abbrev pub line : Page → List ℕ → Option Page
-line s l = pick (all plain (no-cr l)) (content s (before 35 (no-cr l))) none
+line s l = pick (all plain (no_cr l)) (content s (before 35 (no_cr l))) none
 
-abbrev pub blank-page : Page
-blank-page = record { columns = []; places = record { numerals = false; words = [] } }
+abbrev pub blank_page : Page
+blank_page = record { columns = []; places = record { numerals = false; words = [] } }
 
 -- a page is whole once the threads are named
 abbrev pub whole : Page → Option Listing
@@ -156,4 +156,4 @@ whole s = pick (empty s.columns) none (some (record { columns = s.columns; place
 
 -- the listing that a text says; none where it is refused
 abbrev pub reads : List ℕ → Option Listing
-reads text = opt (each line blank-page (pieces 10 text)) none whole
+reads text = opt (each line blank_page (pieces 10 text)) none whole

@@ -3,7 +3,7 @@ use Rattle.std.specs.Prelude.{◌≡◌, ℕ, ◌<◌, ◌≤◌, Bool, true, fa
 use Rattle.std.proofs.Math.Option.{none}
 use Rattle.text.specs.declared.bytes.Kind.{Kind}
 use Rattle.text.specs.declared.bytes.Kind.TheVariants.{Letter, Digit, Blank, Sign, Plain, But}
-use Rattle.text.specs.Bytes.{Word, letter, digit, blank, sign, plain, but, tokens-on}
+use Rattle.text.specs.Bytes.{Word, letter, digit, blank, sign, plain, but, tokens_on}
 
 abbrev pub test : Kind → ℕ → Bool
 test Letter = letter
@@ -14,7 +14,7 @@ test Plain = plain
 test (But s) = but s
 
 -- the first n bytes of bs are its first token, or none begins there
-pub record First-token (bs : List ℕ) (n : ℕ) : Type 0 where
+pub record FirstToken (bs : List ℕ) (n : ℕ) : Type 0 where
   pub within : n ≤ length bs
-  pub refused : n ≡ 0 → 0 < length bs → blank (slice_index bs 0) ≡ false → (ts : List Word) → tokens-on (record { found = ts; begun = [] }) bs ≡ none
-  pub cut : 0 < n → (ts : List Word) → tokens-on (record { found = ts; begun = [] }) bs ≡ tokens-on (record { found = ts ++ take n bs ∷ []; begun = [] }) (drop n bs)
+  pub refused : n ≡ 0 → 0 < length bs → blank (slice_index bs 0) ≡ false → (ts : List Word) → tokens_on (record { found = ts; begun = [] }) bs ≡ none
+  pub cut : 0 < n → (ts : List Word) → tokens_on (record { found = ts; begun = [] }) bs ≡ tokens_on (record { found = ts ++ take n bs ∷ []; begun = [] }) (drop n bs)

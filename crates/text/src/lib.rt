@@ -2,7 +2,7 @@
 // Reading goes from `reading` (a text) over `pages` (lines, cells and what has been read so far), `cells` (an instruction)
 // and `naming` (places by their names, kept in `places`) down to `tokens` and `bytes`. `faults` says why a text is refused,
 // and `misfits` where a cell goes wrong. `printing` is the way back. What is read and printed is a `source`.
-ghost use Rattle.text.specs.Fine.{Every-program};
+ghost use Rattle.text.specs.Fine.{EveryProgram};
 
 pub mod bytes;
 pub mod cells;
@@ -19,7 +19,7 @@ pub mod words;
 
 // Every program that words allow can be printed and read back, under any names for its threads: a theorem, and no code.
 pub fn every_program_has_a_text() -> u8
-    ensures { Every-program }
+    ensures { EveryProgram }
 {
     0
 }

@@ -2,7 +2,7 @@
 ghost use Rattle.std.specs.Prelude.{◌≡◌, ◌<◌, true, map, length, IfSome};
 ghost use Rattle.text.specs.Answers.{Answers};
 ghost use Rattle.text.specs.Bytes.{index_of, word};
-ghost use Rattle.text.specs.Grammar.{numeral, place, by-numeral, by_word};
+ghost use Rattle.text.specs.Grammar.{numeral, place, by_numeral, by_word};
 ghost use Rattle.text.specs.Meaning.{words, places, option};
 
 use crate::bytes;
@@ -52,7 +52,7 @@ impl Places {
     }
 
     fn by_numeral(&mut self, heap: Global, name: &[u8], spot: Spot) -> Result<Place, Fault>
-        ensures { Answers result (λ x. (places self.new, x.0)) (by-numeral (places self.old) name.now) }
+        ensures { Answers result (λ x. (places self.new, x.0)) (by_numeral (places self.old) name.now) }
     {
         if !self.words.is_empty() {
             return Err(spot.fault(heap, Expected::PlaceWord, name));

@@ -1,7 +1,7 @@
 // A text read line by line, from left to right, onto a page of what has been read so far.
 ghost use Rattle.std.specs.Prelude.{◌≡◌, ◌<◌, map, vec_len};
 ghost use Rattle.text.specs.Answers.{Answers};
-ghost use Rattle.text.specs.Bytes.{no-cr, pieces, has};
+ghost use Rattle.text.specs.Bytes.{no_cr, pieces, has};
 ghost use Rattle.text.specs.Grammar.{names, does, cell, row, begins, each, content, line};
 ghost use Rattle.text.specs.Meaning.{token, places, column, page};
 
@@ -51,7 +51,7 @@ fn does(
 
 // A line without the CR that it may end in.
 fn without_cr(line: &[u8]) -> &[u8]
-    ensures { result.now ≡ no-cr line.now }
+    ensures { result.now ≡ no_cr line.now }
 {
     let n = line.len();
     if n == 0 {

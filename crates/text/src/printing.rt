@@ -3,7 +3,7 @@
 ghost use Rattle.std.specs.Prelude.{◌≡◌, ◌+◌, ◌-◌, ◌*◌, ◌<◌, ◌≤◌, max, ◌&&◌, ◌++◌, map, length, replicate, IfOk, vec_len, string_bytes, string_len, OnOk};
 ghost use Rattle.program.specs.Instructions.{instruction};
 ghost use Rattle.text.specs.Meaning.{words, column, listing};
-ghost use Rattle.text.specs.Shows.{show-place, show-i, show-cell, width, show-line, height, show-lines, shows};
+ghost use Rattle.text.specs.Shows.{show_place, show_i, show_cell, width, show_line, height, show_lines, shows};
 ghost use Rattle.text.specs.Bytes.{empty};
 ghost use Rattle.text.specs.Fine.{Fine};
 ghost use Rattle.text.specs.Grammar.{Column, reads};
@@ -16,7 +16,7 @@ use std::alloc::{AllocError, Global};
 
 // A place by its name, or by its numeral where it has none.
 pub fn place(heap: Global, names: &[String], x: Place) -> Result<String, AllocError>
-    ensures { IfOk result (λ s. string_bytes s ≡ show-place (words names.now) x.0) }
+    ensures { IfOk result (λ s. string_bytes s ≡ show_place (words names.now) x.0) }
 {
     let x = x.0;
     let k = x as usize;
@@ -28,7 +28,7 @@ pub fn place(heap: Global, names: &[String], x: Place) -> Result<String, AllocEr
 
 // An instruction as it stands in a cell.
 pub fn cell_text(heap: Global, names: &[String], i: Instruction) -> Result<String, AllocError>
-    ensures { IfOk result (λ s. string_bytes s ≡ show-i (words names.now) (instruction i)) }
+    ensures { IfOk result (λ s. string_bytes s ≡ show_i (words names.now) (instruction i)) }
 {
     match i {
         Instruction::Set(r, n) => {
@@ -57,7 +57,7 @@ pub fn cell_text(heap: Global, names: &[String], i: Instruction) -> Result<Strin
 
 // The cell of line `j` in a thread's column: its name in line 0, else an instruction or nothing.
 fn cell(heap: Global, names: &[String], thread: &Thread, j: usize) -> Result<String, AllocError>
-    ensures { IfOk result (λ s. string_bytes s ≡ show-cell (words names.now) (column thread.now) j) }
+    ensures { IfOk result (λ s. string_bytes s ≡ show_cell (words names.now) (column thread.now) j) }
 {
     if j == 0 {
         return String::from_str(heap, thread.name.as_str());
@@ -142,7 +142,7 @@ fn put_line(
     threads: &[Thread],
     j: usize,
 ) -> Result<(), AllocError>
-    ensures { OnOk result (string_bytes out.new ≡ string_bytes out.old ++ show-line (words names.now) j (map column threads.now)) }
+    ensures { OnOk result (string_bytes out.new ≡ string_bytes out.old ++ show_line (words names.now) j (map column threads.now)) }
 {
     for k in 0..threads.len() {
         put_part(heap, out, names, &threads[k], j, k, k + 1 == threads.len())?;
@@ -163,7 +163,7 @@ fn height_of(threads: &[Thread]) -> usize
 
 // The lines below the first.
 fn put_rows(heap: Global, out: &mut String, source: &Source, rows: usize) -> Result<(), AllocError>
-    ensures { OnOk result (string_bytes out.new ≡ string_bytes out.old ++ show-lines (listing source.now) 1 rows) }
+    ensures { OnOk result (string_bytes out.new ≡ string_bytes out.old ++ show_lines (listing source.now) 1 rows) }
 {
     for j in 0..rows {
         put_line(

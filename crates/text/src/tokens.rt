@@ -2,7 +2,7 @@
 ghost use Rattle.std.specs.Prelude.{◌≡◌, map};
 ghost use Rattle.text.specs.Answers.{Answers};
 ghost use Rattle.text.specs.Bytes.{tokens};
-ghost use Rattle.text.specs.Kinds.{First-token};
+ghost use Rattle.text.specs.Kinds.{FirstToken};
 ghost use Rattle.text.specs.Meaning.{token};
 
 use crate::bytes::Kind;
@@ -17,7 +17,7 @@ pub struct Token<'a> {
 
 // How many bytes the first word or sign has; none where neither begins.
 fn token_len(bytes: &[u8]) -> usize
-    ensures { First-token bytes.now result }
+    ensures { FirstToken bytes.now result }
 {
     let letters = Kind::Letter.run(bytes);
     if letters > 0 {

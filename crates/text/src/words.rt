@@ -1,6 +1,6 @@
 // The words that a program with its names is, as `program::words` reads them.
 ghost use Rattle.std.specs.Prelude.{◌≡◌, ◌^◌, ◌<◌, ◌∷◌, ◌++◌, map, length, IfOk, Ok, OnOk};
-ghost use Rattle.model.specs.Code.{row, row-t};
+ghost use Rattle.model.specs.Code.{row, row_t};
 ghost use Rattle.program.specs.Instructions.{instruction};
 ghost use Rattle.text.specs.Grammar.{program};
 ghost use Rattle.text.specs.Meaning.{listing};
@@ -23,7 +23,7 @@ fn count(n: usize) -> Result<u32, AllocError>
 
 // Adds a thread's words: how many instructions, and each.
 fn push_thread(words: &mut Vec<u32>, code: &[Instruction]) -> Result<(), AllocError>
-    ensures { OnOk result (words.new.items ≡ words.old.items ++ (length (map instruction code.now) ∷ row-t (map instruction code.now))) }
+    ensures { OnOk result (words.new.items ≡ words.old.items ++ (length (map instruction code.now) ∷ row_t (map instruction code.now))) }
 {
     words.push(count(code.len())?)?;
     for k in 0..code.len() {

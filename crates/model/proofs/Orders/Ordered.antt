@@ -11,10 +11,10 @@ use native.Mathlib.Omega.{arith}
 use Rattle.model.specs.Code.{nth, Thread, Prog}
 use Rattle.model.specs.Machine.{at_mem}
 use Rattle.model.specs.Orders.{Ev, In, first, more, Before, here, later, Sees}
-use Rattle.model.proofs.Tools.{some_is, false-true}
-use Rattle.model.proofs.Orders.Events.{within, ahead, in-same, here-same, before-first, before-second, before-both, in-or, before-this, this-before, before-left, left_in, in_split}
-use Rattle.model.proofs.Orders.Going.{Cross, Took, Gives, after, Goes, upd, upd-here, upd-there, Well, took-this, took_in, took-before, took-or, took-before-or, took-well, took-apart}
-use Rattle.model.proofs.Orders.Reading.{newest-is, Has, has-less, has_more}
+use Rattle.model.proofs.Tools.{some_is, false_true}
+use Rattle.model.proofs.Orders.Events.{within, ahead, in_same, here_same, before_first, before_second, before_both, in_or, before_this, this_before, before_left, left_in, in_split}
+use Rattle.model.proofs.Orders.Going.{Cross, Took, Gives, after, Goes, upd, upd_here, upd_there, Well, took_this, took_in, took_before, took_or, took_before_or, took_well, took_apart}
+use Rattle.model.proofs.Orders.Reading.{newest_is, Has, has_less, has_more}
 
 pub record Ordered (p : Prog) (m : List ℕ) (A : ℕ → List Ev) (o : List Ev) : Type 0 where
   pub from : (e : Ev) → In e o → (n : ℕ) × In e (A n)
@@ -24,8 +24,8 @@ pub record Ordered (p : Prog) (m : List ℕ) (A : ℕ → List Ev) (o : List Ev)
   pub has : (r : Ev) → In r o → r.write ≡ false → Has m o r
 
 -- where nothing is to come the order is empty
-ordered-none : (p : Prog) (m : List ℕ) (A : ℕ → List Ev) → ((n : ℕ) → A n ≡ []) → Ordered p m A []
-ordered-none p m A h = record {
+ordered_none : (p : Prog) (m : List ℕ) (A : ℕ → List Ev) → ((n : ℕ) → A n ≡ []) → Ordered p m A []
+ordered_none p m A h = record {
   from = λ e i. absurd (within i);
   each = λ n e i. subst (λ (z : List Ev). In e z) (h n) i;
   once = λ a b k s. ahead k;
@@ -33,8 +33,8 @@ ordered-none p m A h = record {
   has = λ r i w. absurd (within i);
 }
 
-none-ordered : (p : Prog) (m : List ℕ) (A : ℕ → List Ev) → Ordered p m A [] → (n : ℕ) → A n ≡ []
-none-ordered p m A o n = go (A n) refl
+none_ordered : (p : Prog) (m : List ℕ) (A : ℕ → List Ev) → Ordered p m A [] → (n : ℕ) → A n ≡ []
+none_ordered p m A o n = go (A n) refl
   where
     go : (l : List Ev) → A n ≡ l → A n ≡ []
     go [] q = q
@@ -44,81 +44,81 @@ none-ordered p m A o n = go (A n) refl
 module _ (p : Prog) (m : List ℕ) (A : ℕ → List Ev) (e : Ev) (es : List Ev) (well : Well p m A) (B : ℕ → List Ev) (st : Took p A e B)
     (from : (x : Ev) → In x (e ∷ es) → (n : ℕ) × In x (A n)) (each : (n : ℕ) (x : Ev) → In x (A n) → In x (e ∷ es)) (fresh : In e es → ⊥) where
   -- what is passed stands in the thread's list, before e
-  older-before : {w : Ev} → In w st.older → Before w e (A st.n)
-  older-before {w} i = subst (λ (z : List Ev). Before w e z) (sym st.was) (before-this e st.newer i)
+  older_before : {w : Ev} → In w st.older → Before w e (A st.n)
+  older_before {w} i = subst (λ (z : List Ev). Before w e z) (sym st.was) (before_this e st.newer i)
 
-  older-sees : {w : Ev} → In w st.older → w.place ≡ e.place → Sees (e ∷ es) w e
-  older-sees {w} i q =
-      let b = older-before i in
-      let here-w = before-first b in
-      ((st.over w i).0, q, inr (well.thread st.n w here-w ∙ sym (well.thread st.n e (before-second b)), well.sorted st.n w e b, each st.n w here-w))
+  older_sees : {w : Ev} → In w st.older → w.place ≡ e.place → Sees (e ∷ es) w e
+  older_sees {w} i q =
+      let b = older_before i in
+      let here_w = before_first b in
+      ((st.over w i).0, q, inr (well.thread st.n w here_w ∙ sym (well.thread st.n e (before_second b)), well.sorted st.n w e b, each st.n w here_w))
 
-  sees-older : {w : Ev} → Sees (e ∷ es) w e → In w st.older
-  sees-older {w} (a, b, inl k) = elim (ahead k) [ inl (q, i) ↦ absurd (fresh i) | inr j ↦ absurd (fresh (before-second j)) ]
-  sees-older {w} (a, b, inr (same, less, i)) =
+  sees_older : {w : Ev} → Sees (e ∷ es) w e → In w st.older
+  sees_older {w} (a, b, inl k) = elim (ahead k) [ inl (q, i) ↦ absurd (fresh i) | inr j ↦ absurd (fresh (before_second j)) ]
+  sees_older {w} (a, b, inr (same, less, i)) =
       let (k, j) = from w i in
-      let q : k ≡ st.n = sym (well.thread k w j) ∙ (same ∙ well.thread st.n e (took-this p A e B st)) in
+      let q : k ≡ st.n = sym (well.thread k w j) ∙ (same ∙ well.thread st.n e (took_this p A e B st)) in
       let h = subst (λ (z : List Ev). In w z) st.was (subst (λ (z : ℕ). In w (A z)) q j) in
       elim (left_in e st.older st.newer h) [
         | inl z ↦ let x = ap (λ (y : Ev). y.index) z in absurd (omega arith)
-        | inr z ↦ elim (in-or st.older st.newer z) [
+        | inr z ↦ elim (in_or st.older st.newer z) [
           | inl y ↦ y
-          | inr y ↦ let x = well.sorted st.n e w (subst (λ (u : List Ev). Before e w u) (sym st.was) (this-before e st.older y)) in absurd (omega arith)
+          | inr y ↦ let x = well.sorted st.n e w (subst (λ (u : List Ev). Before e w u) (sym st.was) (this_before e st.older y)) in absurd (omega arith)
         ]
       ]
 
   -- writes are kept in their order
   module _ (kept : (a b : Ev) → Before a b (A st.n) → Before a b (e ∷ es) ⊎ Cross st.t a b) where
-    older-kept : {v w : Ev} → Before v w st.older → Before v w (e ∷ es)
-    older-kept {v} {w} k = elim (kept v w (subst (λ (z : List Ev). Before v w z) (sym st.was) (before-left (e ∷ st.newer) k))) [
+    older_kept : {v w : Ev} → Before v w st.older → Before v w (e ∷ es)
+    older_kept {v} {w} k = elim (kept v w (subst (λ (z : List Ev). Before v w z) (sym st.was) (before_left (e ∷ st.newer) k))) [
       | inl b ↦ b
-      | inr c ↦ absurd (false-true (sym c.1 ∙ (st.over w (before-second k)).0))
+      | inr c ↦ absurd (false_true (sym c.1 ∙ (st.over w (before_second k)).0))
     ]
 
     -- so e has the newest of those that it passes exactly if it has the newest of those that it may see
-    gives-has : ((c : Ev) → Before c c (e ∷ es) → ⊥) → Gives m st.older e → Has m (e ∷ es) e
-    gives-has once g = elim (newest-is st.older e.place (at_mem m e.place)) [
+    gives_has : ((c : Ev) → Before c c (e ∷ es) → ⊥) → Gives m st.older e → Has m (e ∷ es) e
+    gives_has once g = elim (newest_is st.older e.place (at_mem m e.place)) [
       | inl (w, h, q) ↦ inl (
         w,
-        older-sees h.one h.to,
+        older_sees h.one h.to,
         sym (g ∙ q),
-        λ v s b. elim (h.last v (sees-older s) s.1) [
+        λ v s b. elim (h.last v (sees_older s) s.1) [
           | inl z ↦ once w (subst (λ (y : Ev). Before w y (e ∷ es)) z b)
-          | inr k ↦ let (c, x) = before-both (e ∷ es) b (older-kept k) in once c x
+          | inr k ↦ let (c, x) = before_both (e ∷ es) b (older_kept k) in once c x
         ],
       )
-      | inr (h, q) ↦ inr (g ∙ q, λ w s. h w (sees-older s) s.1)
+      | inr (h, q) ↦ inr (g ∙ q, λ w s. h w (sees_older s) s.1)
     ]
 
-    has-gives : Has m (e ∷ es) e → Gives m st.older e
-    has-gives (inl (w, s, q, new)) = elim (newest-is st.older e.place (at_mem m e.place)) [
-      | inl (u, h, r) ↦ elim (h.last w (sees-older s) s.1) [
+    has_gives : Has m (e ∷ es) e → Gives m st.older e
+    has_gives (inl (w, s, q, new)) = elim (newest_is st.older e.place (at_mem m e.place)) [
+      | inl (u, h, r) ↦ elim (h.last w (sees_older s) s.1) [
         | inl z ↦ sym q ∙ (ap (λ (y : Ev). y.val) z ∙ sym r)
-        | inr k ↦ absurd (new u (older-sees h.one h.to) (older-kept k))
+        | inr k ↦ absurd (new u (older_sees h.one h.to) (older_kept k))
       ]
-      | inr (h, r) ↦ absurd (h w (sees-older s) s.1)
+      | inr (h, r) ↦ absurd (h w (sees_older s) s.1)
     ]
-    has-gives (inr (q, no-w)) = elim (newest-is st.older e.place (at_mem m e.place)) [
-      | inl (u, h, r) ↦ absurd (no-w u (older-sees h.one h.to))
+    has_gives (inr (q, no-w)) = elim (newest_is st.older e.place (at_mem m e.place)) [
+      | inl (u, h, r) ↦ absurd (no-w u (older_sees h.one h.to))
       | inr (h, r) ↦ q ∙ sym r
     ]
 
 -- an event taken, and then an order of the rest
 module _ (p : Prog) (m : List ℕ) (A : ℕ → List Ev) (e : Ev) (es : List Ev) (well : Well p m A) (B : ℕ → List Ev) (st : Took p A e B) (gives : e.write ≡ false → Gives m st.older e) (o : Ordered p (after m e) B es) where
   apart : {x : Ev} → In x es → e.thread ≡ x.thread → e.index ≡ x.index → ⊥
-  apart i = let (k, j) = o.from _ i in took-apart p A e B st m well k j
+  apart i = let (k, j) = o.from _ i in took_apart p A e B st m well k j
 
   fresh : In e es → ⊥
   fresh i = apart i refl refl
 
   from_more : (x : Ev) → In x (e ∷ es) → (n : ℕ) × In x (A n)
   from_more x i = elim (within i) [
-    | inl q ↦ (st.n, subst (λ (z : Ev). In z (A st.n)) (sym q) (took-this p A e B st))
+    | inl q ↦ (st.n, subst (λ (z : Ev). In z (A st.n)) (sym q) (took_this p A e B st))
     | inr j ↦ let (k, h) = o.from x j in (k, took_in p A e B st k h)
   ]
 
   each_more : (k : ℕ) (x : Ev) → In x (A k) → In x (e ∷ es)
-  each_more k x i = elim (took-or p A e B st k i) [ inl q ↦ in-same q | inr j ↦ more (o.each k x j) ]
+  each_more k x i = elim (took_or p A e B st k i) [ inl q ↦ in_same q | inr j ↦ more (o.each k x j) ]
 
   once_more : (a b : Ev) → Before a b (e ∷ es) → (a.thread ≡ b.thread) × (a.index ≡ b.index) → ⊥
   once_more a b k s = elim (ahead k) [
@@ -127,28 +127,28 @@ module _ (p : Prog) (m : List ℕ) (A : ℕ → List Ev) (e : Ev) (es : List Ev)
   ]
 
   kept_more : (k : ℕ) (t : Thread) (a b : Ev) → nth p k ≡ some t → Before a b (A k) → Before a b (e ∷ es) ⊎ Cross t a b
-  kept_more k t a b c i = elim (took-before-or p A e B st k i) [
+  kept_more k t a b c i = elim (took_before_or p A e B st k i) [
     | inl (inl (q, j, z)) ↦ inr (subst (λ (y : Ev). Cross t a y) (sym z) (subst (λ (y : Thread). Cross y a e) (some_is (sym st.code ∙ (ap (nth p) q ∙ c))) (st.over a j)))
-    | inl (inr (z, j)) ↦ inl (here-same z (o.each k b j))
+    | inl (inr (z, j)) ↦ inl (here_same z (o.each k b j))
     | inr j ↦ elim (o.kept k t a b c j) [ inl x ↦ inl (later x) | inr x ↦ inr x ]
   ]
 
-  ordered-more : Ordered p m A (e ∷ es)
-  ordered-more = record {
+  ordered_more : Ordered p m A (e ∷ es)
+  ordered_more = record {
     from = from_more;
     each = each_more;
     once = once_more;
     kept = kept_more;
     has = λ r i w. elim (within i) [
-      | inl q ↦ subst (λ (z : Ev). Has m (e ∷ es) z) (sym q) (gives-has p m A e es well B st from_more each_more fresh (λ a b. kept_more st.n st.t a b st.code) (λ c x. once_more c c x (refl, refl)) (gives (sym (ap (λ (z : Ev). z.write) q) ∙ w)))
-      | inr j ↦ has_more m e es r j (well.place st.n e (took-this p A e B st)) fresh (o.has r j w)
+      | inl q ↦ subst (λ (z : Ev). Has m (e ∷ es) z) (sym q) (gives_has p m A e es well B st from_more each_more fresh (λ a b. kept_more st.n st.t a b st.code) (λ c x. once_more c c x (refl, refl)) (gives (sym (ap (λ (z : Ev). z.write) q) ∙ w)))
+      | inr j ↦ has_more m e es r j (well.place st.n e (took_this p A e B st)) fresh (o.has r j w)
     ];
   }
 
 -- the first event of an order is taken, and the rest is an order
 module _ (p : Prog) (m : List ℕ) (A : ℕ → List Ev) (e : Ev) (es : List Ev) (well : Well p m A) (o : Ordered p m A (e ∷ es)) where
-  fresh-of : In e es → ⊥
-  fresh-of i = o.once e e (here i) (refl, refl)
+  fresh_of : In e es → ⊥
+  fresh_of i = o.once e e (here i) (refl, refl)
 
   taken : (B : ℕ → List Ev) × Took p A e B
   taken =
@@ -163,42 +163,42 @@ module _ (p : Prog) (m : List ℕ) (A : ℕ → List Ev) (e : Ev) (es : List Ev)
           older = xs;
           newer = ys;
           was = q;
-          is = upd-here A n (xs ++ ys);
-          others = upd-there A n (xs ++ ys);
-          over = λ a j. elim (o.kept n t a e c (subst (λ (z : List Ev). Before a e z) (sym q) (before-this e ys j))) [
-            | inl k ↦ elim (ahead k) [ inl (z, h) ↦ absurd (fresh-of h) | inr k' ↦ absurd (fresh-of (before-second k')) ]
+          is = upd_here A n (xs ++ ys);
+          others = upd_there A n (xs ++ ys);
+          over = λ a j. elim (o.kept n t a e c (subst (λ (z : List Ev). Before a e z) (sym q) (before_this e ys j))) [
+            | inl k ↦ elim (ahead k) [ inl (z, h) ↦ absurd (fresh_of h) | inr k' ↦ absurd (fresh_of (before_second k')) ]
             | inr x ↦ x
           ];
         },
       )
 
-  ordered-less : (B : ℕ → List Ev) (st : Took p A e B) → Ordered p (after m e) B es
-  ordered-less B st = record {
+  ordered_less : (B : ℕ → List Ev) (st : Took p A e B) → Ordered p (after m e) B es
+  ordered_less B st = record {
     from = λ x i. let (k, j) = o.from x (more i) in
-        elim (took-or p A e B st k j) [ inl q ↦ absurd (fresh-of (subst (λ (z : Ev). In z es) q i)) | inr h ↦ (k, h) ];
+        elim (took_or p A e B st k j) [ inl q ↦ absurd (fresh_of (subst (λ (z : Ev). In z es) q i)) | inr h ↦ (k, h) ];
     each = λ k x i. elim (within (o.each k x (took_in p A e B st k i))) [ inl q ↦ absurd (gone k i q) | inr j ↦ j ];
     once = λ a b k s. o.once a b (later k) s;
-    kept = λ n t a b c k. elim (o.kept n t a b c (took-before p A e B st n k)) [
-      | inl j ↦ elim (ahead j) [ inl (q, h) ↦ absurd (gone n (before-first k) q) | inr h ↦ inl h ]
+    kept = λ n t a b c k. elim (o.kept n t a b c (took_before p A e B st n k)) [
+      | inl j ↦ elim (ahead j) [ inl (q, h) ↦ absurd (gone n (before_first k) q) | inr h ↦ inl h ]
       | inr x ↦ inr x
     ];
-    has = λ r i w. has-less m e es r i (well.place st.n e (took-this p A e B st)) (o.has r (more i) w);
+    has = λ r i w. has_less m e es r i (well.place st.n e (took_this p A e B st)) (o.has r (more i) w);
   }
     where
       gone : (k : ℕ) {x : Ev} → In x (B k) → x ≡ e → ⊥
-      gone k i q = took-apart p A e B st m well k i (sym (ap (λ (z : Ev). z.thread) q)) (sym (ap (λ (z : Ev). z.index) q))
+      gone k i q = took_apart p A e B st m well k i (sym (ap (λ (z : Ev). z.thread) q)) (sym (ap (λ (z : Ev). z.index) q))
 
   gives_of : (B : ℕ → List Ev) (st : Took p A e B) → e.write ≡ false → Gives m st.older e
-  gives_of B st w = has-gives p m A e es well B st o.from o.each fresh-of (λ a b. o.kept st.n st.t a b st.code) (o.has e first w)
+  gives_of B st w = has_gives p m A e es well B st o.from o.each fresh_of (λ a b. o.kept st.n st.t a b st.code) (o.has e first w)
 
 -- both, event by event
-pub goes-ordered : (p : Prog) (m : List ℕ) (A : ℕ → List Ev) (es : List Ev) → Well p m A → Goes p m A es → Ordered p m A es
-goes-ordered p m A [] well g = ordered-none p m A g
-goes-ordered p m A (e ∷ es) well (B, st, gives, g) =
-    ordered-more p m A e es well B st gives (goes-ordered p (after m e) B es (took-well p A e B st m well) g)
+pub goes_ordered : (p : Prog) (m : List ℕ) (A : ℕ → List Ev) (es : List Ev) → Well p m A → Goes p m A es → Ordered p m A es
+goes_ordered p m A [] well g = ordered_none p m A g
+goes_ordered p m A (e ∷ es) well (B, st, gives, g) =
+    ordered_more p m A e es well B st gives (goes_ordered p (after m e) B es (took_well p A e B st m well) g)
 
-pub ordered-goes : (p : Prog) (m : List ℕ) (A : ℕ → List Ev) (es : List Ev) → Well p m A → Ordered p m A es → Goes p m A es
-ordered-goes p m A [] well o = none-ordered p m A o
-ordered-goes p m A (e ∷ es) well o =
+pub ordered_goes : (p : Prog) (m : List ℕ) (A : ℕ → List Ev) (es : List Ev) → Well p m A → Ordered p m A es → Goes p m A es
+ordered_goes p m A [] well o = none_ordered p m A o
+ordered_goes p m A (e ∷ es) well o =
     let (B, st) = taken p m A e es well o in
-    (B, st, gives_of p m A e es well o B st, ordered-goes p (after m e) B es (took-well p A e B st m well) (ordered-less p m A e es well o B st))
+    (B, st, gives_of p m A e es well o B st, ordered_goes p (after m e) B es (took_well p A e B st m well) (ordered_less p m A e es well o B st))

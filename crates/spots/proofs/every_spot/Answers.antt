@@ -1,16 +1,16 @@
 use Rattle.std.proofs.Common.{◌≡◌, sym, ap, ◌∙◌, arith}
-use Rattle.hitting.specs.Spots.{mask-of}
+use Rattle.hitting.specs.Spots.{mask_of}
 use Rattle.program.specs.Meaning.{threads, program}
 use Rattle.spots.specs.Masks.{rows}
-use Rattle.spots.proofs.Every.{every-is}
-use Rattle.spots.proofs.Adding.{rows_more, rows-small}
+use Rattle.spots.proofs.Every.{every_is}
+use Rattle.spots.proofs.Adding.{rows_more, rows_small}
 use Rattle.spots.proofs.every_spot.Goals as goal
 
 pub overflow-add-bits : goal.overflow-add-bits
 overflow-add-bits c =
     let p = c.args.p.now in
     let n = c.loop-n.n in
-    omega (arith, rows_more p n c.index-p-n.result (omega arith), rows-small p n (omega arith))
+    omega (arith, rows_more p n c.index-p-n.result (omega arith), rows_small p n (omega arith))
 
 pub loop-n-preserved : goal.loop-n-preserved
 loop-n-preserved c = omega (arith, rows_more c.args.p.now c.loop-n.n c.index-p-n.result (omega arith))
@@ -19,4 +19,4 @@ pub returns : goal.returns
 returns c =
     let p = c.args.p.now in
     let n : c.loop-n.n ≡ p.count = omega arith in
-    c.loop-n.invariant ∙ ap (λ m. mask-of (rows 0 (threads p.threads m))) n ∙ sym (every-is (program p))
+    c.loop-n.invariant ∙ ap (λ m. mask_of (rows 0 (threads p.threads m))) n ∙ sym (every_is (program p))

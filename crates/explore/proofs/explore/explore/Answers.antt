@@ -1,10 +1,10 @@
 use Rattle.std.proofs.Common.{◌≡◌, ℕ, ◌+◌, ◌*◌, ◌<◌, ◌≤◌, length, sym, ap, ◌∙◌, subst, mul-le-mul_left, arith}
-use Rattle.lent.proofs.RecordLaws.{more-words}
+use Rattle.lent.proofs.RecordLaws.{more_words}
 use Rattle.program.specs.Meaning.{program}
-use Rattle.program.proofs.WriteWords.{length-program}
+use Rattle.program.proofs.WriteWords.{length_program}
 use Rattle.explore.specs.Found.{width, moves_of}
 use Rattle.explore.specs.Post.{Between}
-use Rattle.explore.proofs.Edges.{words-within}
+use Rattle.explore.proofs.Edges.{words_within}
 use Rattle.explore.proofs.Turns.{levelled, turn, turned, explored}
 use Rattle.explore.proofs.explore.explore.Goals as goal
 
@@ -12,7 +12,7 @@ pub start-shape-requires : goal.start-shape-requires
 start-shape-requires c =
     let p = program c.args.p.now in
     let s = c.requires.some in
-    let e = words-within 0 c.args.limit c.args.limit (width (length p)) (length c.args.queue.now) s (omega arith) c.requires.ends in
+    let e = words_within 0 c.args.limit c.args.limit (width (length p)) (length c.args.queue.now) s (omega arith) c.requires.ends in
     record { some = s; told = c.requires.told; room = omega arith; small = c.requires.small; fits = c.requires.fits }
 
 pub states-init : goal.states-init
@@ -35,11 +35,11 @@ expand-requires c =
     let ke = c.states.auto.edges in
     let kk = c.states.auto.key in
     let kf = c.states.auto.from in
-    let in-from = c.requires.in-from in
+    let in_from = c.requires.in_from in
     let (hr, ranks, probed) = levelled p c.states.shape c.args.limit c.states.queue c.states.table c.states.edges c.states.from c.states.since c.states.n i c.level-end-since.result b h c.level-end-since.ensures in
     let w : c.make-room-shape.result.width ≡ width (length p) = r.width ∙ b.wide in
-    let e1 = words-within i c.states.n c.args.limit (width (length p)) (length c.args.queue.now) h b.few c.requires.ends in
-    let e2 = words-within i c.states.n c.args.limit (moves_of (length p)) (length c.args.edges.now) h b.few c.requires.edges-end in
+    let e1 = words_within i c.states.n c.args.limit (width (length p)) (length c.args.queue.now) h b.few c.requires.ends in
+    let e2 = words_within i c.states.n c.args.limit (moves_of (length p)) (length c.args.edges.now) h b.few c.requires.edges-end in
     let wi = c.states.invariant.1 in
     let fi = c.states.invariant.2 in
     let key = c.requires.key in
@@ -53,7 +53,7 @@ expand-requires c =
       words = omega arith;
       stands = fi;
       edges-end = omega arith;
-      in-from = omega arith;
+      in_from = omega arith;
       ends = subst (λ (z : ℕ). c.args.limit * z ≤ length c.states.queue) (sym w) (subst (λ (z : ℕ). c.args.limit * width (length p) ≤ z) (sym q0) c.requires.ends);
     }
 
@@ -63,14 +63,14 @@ overflow-add-words c =
     let b = c.states.invariant.0 in
     let r = c.make-room-shape.ensures in
     let w : c.make-room-shape.result.width ≡ width (length p) = r.width ∙ b.wide in
-    let e1 = words-within c.states.i c.states.n c.args.limit (width (length p)) (length c.args.queue.now) c.states-test.true b.few c.requires.ends in
+    let e1 = words_within c.states.i c.states.n c.args.limit (width (length p)) (length c.args.queue.now) c.states-test.true b.few c.requires.ends in
     let wi = c.states.invariant.1 in
     omega arith
 
 pub overflow-add-first : goal.overflow-add-first
 overflow-add-first c =
     let p = program c.args.p.now in
-    let l = length-program c.args.p.now in
+    let l = length_program c.args.p.now in
     let b = c.states.invariant.0 in
     let eight : moves_of (length p) ≤ 8 = let few = c.args.p.now.few in omega arith in
     let most = mul-le-mul_left c.states.i eight in
@@ -88,12 +88,12 @@ states-preserved c =
     let w : c.make-room-shape.result.width ≡ width (length p) = r.width ∙ b.wide in
     let wi = c.states.invariant.1 in
     let fi = c.states.invariant.2 in
-    let l = length-program c.args.p.now in
+    let l = length_program c.args.p.now in
     let kt = c.expand.auto.table in
     let f = r.fits in (
       turned p c.make-room-shape.result c.args.limit c.expand.new.queue c.expand.new.table c.expand.new.edges c.expand.new.from c.level-end-since.result c.in-Some.states c.states.i c.in-Some.ensures (omega arith),
-      (let m = more-words c.states.i (width (length p)) in omega arith),
-      (let m = more-words c.states.i (moves_of (length p)) in omega arith),
+      (let m = more_words c.states.i (width (length p)) in omega arith),
+      (let m = more_words c.states.i (moves_of (length p)) in omega arith),
     )
 
 pub returns : goal.returns

@@ -1,8 +1,8 @@
 -- The clauses kept are learnt, and no list of fewer fences works.
 use Rattle.std.proofs.Common.{◌-◌, ◌^◌, ◌≤◌, length}
 use Rattle.program.specs.Meaning.{program}
-use Rattle.fences.specs.Searching.{Learnt-masks, Earlier-fail}
+use Rattle.fences.specs.Searching.{LearntMasks, EarlierFail}
 use Rattle.fences.proofs.fewest.fewest.Given as goal
 
 abbrev pub invariant-lengths : goal.invariant-lengths
-invariant-lengths l = (l.known ≤ length l.clauses) × Learnt-masks (program l.p) l.clauses l.known × Earlier-fail (program l.p) l.bits (2 ^ 32 - 1)
+invariant-lengths l = (l.known ≤ length l.clauses) × LearntMasks (program l.p) l.clauses l.known × EarlierFail (program l.p) l.bits (2 ^ 32 - 1)

@@ -1,9 +1,9 @@
 use Rattle.std.proofs.Common.{◌≡◌, ℕ, ◌+◌, ◌-◌, ◌<◌, ◌≤◌, take, Some, None, sym, ◌∙◌, subst, arith}
 use lib.Bits.{bit_and}
-use Rattle.hitting.specs.Post.{Next-or-none}
+use Rattle.hitting.specs.Post.{NextOrNone}
 use Rattle.program.specs.Meaning.{program}
-use Rattle.program.proofs.WriteWords.{program-ok}
-use Rattle.fences.proofs.SearchLaws.{learnt-slice, after_none, after-some, found-next, go_on, go-on-none, fails-turned, kept-learnt}
+use Rattle.program.proofs.WriteWords.{program_ok}
+use Rattle.fences.proofs.SearchLaws.{learnt_slice, after_none, after_some, found_next, go_on, go_on_none, fails_turned, kept_learnt}
 use Rattle.fences.proofs.fewest.lists_of.Goals as goal
 
 pub returns-in-default : goal.returns-in-default
@@ -11,9 +11,9 @@ returns-in-default c =
     let p = program c.args.p.now in
     let i = c.lists.invariant in
     let cs = take c.lists.known c.lists.clauses in
-    let nx = subst (λ (z : ℕ). Next-or-none cs z c.args.bits c.lists.upto None) c.requires.among c.in-default.ensures in
+    let nx = subst (λ (z : ℕ). NextOrNone cs z c.args.bits c.lists.upto None) c.requires.among c.in-default.ensures in
     record {
-      round = after_none p cs c.args.bits c.lists.upto (learnt-slice p c.lists.clauses c.lists.known i.0 i.1) i.2 nx;
+      round = after_none p cs c.args.bits c.lists.upto (learnt_slice p c.lists.clauses c.lists.known i.0 i.1) i.2 nx;
       few = i.0;
       learnt = i.1;
     }
@@ -24,11 +24,11 @@ returns-in-default-try-list c =
     let i = c.lists.invariant in
     let x = c.in-Some.x in
     let cs = take c.lists.known c.lists.clauses in
-    let nx = subst (λ (z : ℕ). Next-or-none cs z c.args.bits c.lists.upto (Some x)) c.requires.among c.in-Some.ensures in
+    let nx = subst (λ (z : ℕ). NextOrNone cs z c.args.bits c.lists.upto (Some x)) c.requires.among c.in-Some.ensures in
     let b = nx.below in
     let u = i.3 in
     record {
-      round = found-next p cs c.args.bits c.lists.upto x (program-ok c.args.p.now) (omega arith) (learnt-slice p c.lists.clauses c.lists.known i.0 i.1) i.2 nx c.in-default-try-list.ensures;
+      round = found_next p cs c.args.bits c.lists.upto x (program_ok c.args.p.now) (omega arith) (learnt_slice p c.lists.clauses c.lists.known i.0 i.1) i.2 nx c.in-default-try-list.ensures;
       few = i.0;
       learnt = i.1;
     }
@@ -39,14 +39,14 @@ returns-then-x-eq0 c =
     let i = c.lists.invariant in
     let x = c.in-Some.x in
     let cs = take c.lists.known c.lists.clauses in
-    let nx = subst (λ (z : ℕ). Next-or-none cs z c.args.bits c.lists.upto (Some x)) c.requires.among c.in-Some.ensures in
+    let nx = subst (λ (z : ℕ). NextOrNone cs z c.args.bits c.lists.upto (Some x)) c.requires.among c.in-Some.ensures in
     let b = nx.below in
     let u = i.3 in
     let (ms, sh, e, miss) = c.in-Some-try-list.ensures in
-    let k = kept-learnt p c.lists.clauses c.keep-known.new.clauses c.lists.known c.in-Some-try-list.clause c.keep-known.result ms c.keep-known.ensures i.0 i.1 sh e in
-    let fail = fails-turned p ms x sh (omega arith) (subst (λ (z : ℕ). bit_and z x ≡ 0) e miss) in
+    let k = kept_learnt p c.lists.clauses c.keep-known.new.clauses c.lists.known c.in-Some-try-list.clause c.keep-known.result ms c.keep-known.ensures i.0 i.1 sh e in
+    let fail = fails_turned p ms x sh (omega arith) (subst (λ (z : ℕ). bit_and z x ≡ 0) e miss) in
     record {
-      round = go-on-none p c.args.bits x c.if-x-eq0.true fail (after-some p cs c.args.bits c.lists.upto x (learnt-slice p c.lists.clauses c.lists.known i.0 i.1) i.2 nx);
+      round = go_on_none p c.args.bits x c.if-x-eq0.true fail (after_some p cs c.args.bits c.lists.upto x (learnt_slice p c.lists.clauses c.lists.known i.0 i.1) i.2 nx);
       few = k.0;
       learnt = k.1;
     }
@@ -57,14 +57,14 @@ lists-preserved c =
     let i = c.lists.invariant in
     let x = c.in-Some.x in
     let cs = take c.lists.known c.lists.clauses in
-    let nx = subst (λ (z : ℕ). Next-or-none cs z c.args.bits c.lists.upto (Some x)) c.requires.among c.in-Some.ensures in
+    let nx = subst (λ (z : ℕ). NextOrNone cs z c.args.bits c.lists.upto (Some x)) c.requires.among c.in-Some.ensures in
     let b = nx.below in
     let u = i.3 in
     let (ms, sh, e, miss) = c.in-Some-try-list.ensures in
-    let k = kept-learnt p c.lists.clauses c.keep-known.new.clauses c.lists.known c.in-Some-try-list.clause c.keep-known.result ms c.keep-known.ensures i.0 i.1 sh e in
-    let fail = fails-turned p ms x sh (omega arith) (subst (λ (z : ℕ). bit_and z x ≡ 0) e miss) in (
+    let k = kept_learnt p c.lists.clauses c.keep-known.new.clauses c.lists.known c.in-Some-try-list.clause c.keep-known.result ms c.keep-known.ensures i.0 i.1 sh e in
+    let fail = fails_turned p ms x sh (omega arith) (subst (λ (z : ℕ). bit_and z x ≡ 0) e miss) in (
       k.0,
       k.1,
-      go_on p c.args.bits x (omega arith) fail (after-some p cs c.args.bits c.lists.upto x (learnt-slice p c.lists.clauses c.lists.known i.0 i.1) i.2 nx),
+      go_on p c.args.bits x (omega arith) fail (after_some p cs c.args.bits c.lists.upto x (learnt_slice p c.lists.clauses c.lists.known i.0 i.1) i.2 nx),
       omega arith,
     )

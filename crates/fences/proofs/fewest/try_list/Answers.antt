@@ -1,6 +1,6 @@
 use Rattle.std.proofs.Common.{map, length, take}
 use Rattle.program.specs.Meaning.{program}
-use Rattle.explore.specs.Found.{move-of}
+use Rattle.explore.specs.Found.{move_of}
 use Rattle.fences.proofs.SearchLaws.{shows}
 use Rattle.fences.proofs.fewest.try_list.Goals as goal
 
@@ -9,5 +9,5 @@ returns c =
     let p = program c.args.p.now in
     let b = c.in-Some.ensures in
     let l = c.learn-len.ensures in
-    let ms = map (move-of (length p)) (take c.learn-len.result.0 c.learn-len.new.path) in
+    let ms = map (move_of (length p)) (take c.learn-len.result.0 c.learn-len.new.path) in
     (ms, shows p c.args.queue.now c.in-Some.bad ms b.done b.apart l.run, l.clause, l.new)

@@ -1,9 +1,9 @@
 use Rattle.std.proofs.Common.{◌≡◌, ℕ, ◌-◌, ◌<◌, ◌≤◌, true, sym, ap, ◌∙◌, inl, inr, arith}
 use Rattle.std.proofs.lemmas.Bool.{cases_eq}
-use Rattle.model.proofs.Tools.{false-true}
+use Rattle.model.proofs.Tools.{false_true}
 use Rattle.program.specs.Meaning.{program}
 use Rattle.fences.specs.Rows.{done_at}
-use Rattle.fences.proofs.LookLaws.{done-before}
+use Rattle.fences.proofs.LookLaws.{done_before}
 use Rattle.fences.proofs.found.first_done.Goals as goal
 
 pub returns-then-not-is-done : goal.returns-then-not-is-done
@@ -19,7 +19,7 @@ returns-then-not-is-done c =
     record {
       few = few;
       done = i.1;
-      before = λ j l d. let y : j ≤ last = omega arith in false-true (c.if-not-is-done.ensures ∙ done-before p q g c.args.n last j x h y d);
+      before = λ j l d. let y : j ≤ last = omega arith in false_true (c.if-not-is-done.ensures ∙ done_before p q g c.args.n last j x h y d);
     }
 
 pub down-preserved : goal.down-preserved

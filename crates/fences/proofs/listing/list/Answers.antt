@@ -1,8 +1,8 @@
 use Rattle.std.proofs.Common.{◌≡◌, ℕ, ◌+◌, ◌*◌, ◌≤◌, length, sym, refl, ap, ◌∙◌, subst, mul-le-mul_right, arith}
 use Rattle.program.specs.Meaning.{program}
-use Rattle.program.proofs.WriteWords.{length-program}
+use Rattle.program.proofs.WriteWords.{length_program}
 use Rattle.explore.specs.Found.{width, moves_of}
-use Rattle.fences.proofs.Listed.{listed_of, crowded-too}
+use Rattle.fences.proofs.Listed.{listed_of, crowded_too}
 use Rattle.fences.proofs.listing.list.Goals as goal
 
 pub explore-requires : goal.explore-requires
@@ -11,7 +11,7 @@ explore-requires c =
     let limit = c.states-that-fit-limit.result in
     let f = c.states-that-fit-limit.ensures in
     let fits = f.fits in
-    let l = length-program p in
+    let l = length_program p in
     let k1 = c.split-at-mut-key.ensures.front-len in
     let k2 = c.split-at-mut-key.ensures.back_len in
     let q1 = c.split-at-mut-queue.ensures.front-len in
@@ -26,7 +26,7 @@ explore-requires c =
       key = omega arith;
       ends = subst (λ (z : ℕ). limit * width z ≤ length c.split-at-mut-queue.result.0.now) (sym l) (omega arith);
       edges-end = subst (λ (z : ℕ). limit * moves_of z ≤ length c.split-at-mut-edges.result.0.now) (sym l) (omega arith);
-      in-from = omega arith;
+      in_from = omega arith;
       small = omega arith;
       fits = omega arith;
     }
@@ -37,7 +37,7 @@ list-found-requires c =
     let limit = c.states-that-fit-limit.result in
     let f = c.states-that-fit-limit.ensures in
     let fits = f.fits in
-    let l = length-program p in
+    let l = length_program p in
     let n = c.in-Some.n in
     let told = c.in-Some.ensures in
     let few = told.few in
@@ -61,7 +61,7 @@ list-found-requires c =
     }
 
 pub returns-in-None : goal.returns-in-None
-returns-in-None c = ((λ m h w. crowded-too (program c.args.p.now) c.states-that-fit-limit.result m (c.states-that-fit-limit.ensures.most m h w) c.in-None.ensures), refl)
+returns-in-None c = ((λ m h w. crowded_too (program c.args.p.now) c.states-that-fit-limit.result m (c.states-that-fit-limit.ensures.most m h w) c.in-None.ensures), refl)
 
 pub returns-in-Some : goal.returns-in-Some
 returns-in-Some c = listed_of (program c.args.p.now) (length c.args.work.now) c.args.out.now c.list-found.new.out c.list-found.result c.list-found.ensures

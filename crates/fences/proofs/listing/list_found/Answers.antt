@@ -1,9 +1,9 @@
 use Rattle.std.proofs.Common.{◌≡◌, ℕ, ◌+◌, ◌-◌, ◌*◌, ◌≤◌, List, length, sym, refl, ◌∙◌, arith}
 use Rattle.program.specs.Meaning.{program}
-use Rattle.fences.specs.Rows.{rows-from}
+use Rattle.fences.specs.Rows.{rows_from}
 use Rattle.fences.proofs.AllOutcomes.{lists}
-use Rattle.fences.proofs.RowLaws.{rows-count}
-use Rattle.fences.proofs.Listed.{all-states, rows_fit, rows-too-long}
+use Rattle.fences.proofs.RowLaws.{rows_count}
+use Rattle.fences.proofs.Listed.{all_states, rows_fit, rows_too_long}
 use Rattle.fences.proofs.listing.list_found.Goals as goal
 
 pub mark-at-once-requires : goal.mark-at-once-requires
@@ -11,7 +11,7 @@ mark-at-once-requires c =
     let f = c.split-at-mut-cost.ensures.front-len in
     let b = c.split-at-mut-cost.ensures.back_len in
     let r = c.requires.room in
-    record { explored = (c.args.queue.now, c.requires.explored); held = c.requires.kept; in-cost = omega arith; in-from = omega arith }
+    record { explored = (c.args.queue.now, c.requires.explored); held = c.requires.kept; in_cost = omega arith; in_from = omega arith }
 
 pub first-done-first-requires : goal.first-done-first-requires
 first-done-first-requires c = record { explored = (c.args.edges.now, c.requires.explored); held = c.requires.held }
@@ -21,9 +21,9 @@ returns-then-count-out c =
     let p = c.args.p.now in
     let q = c.args.queue.now in
     let cost = c.mark-at-once.new.cost in (
-      rows-from (program p) q cost 0 c.args.n,
+      rows_from (program p) q cost 0 c.args.n,
       lists (program p) q c.args.edges.now cost c.args.n c.requires.explored (c.mark-at-once.ensures.marks q c.requires.explored),
-      rows-too-long p q c.args.edges.now cost c.args.n (c.args.n - c.first-done-first.result) (length c.args.out.now) c.requires.explored (rows-count (program p) q cost c.args.n c.first-done-first.result c.first-done-first.ensures) c.if-count-out.true,
+      rows_too_long p q c.args.edges.now cost c.args.n (c.args.n - c.first-done-first.result) (length c.args.out.now) c.requires.explored (rows_count (program p) q cost c.args.n c.first-done-first.result c.first-done-first.ensures) c.if-count-out.true,
       refl,
     )
 
@@ -39,7 +39,7 @@ write-rows-requires c =
       held = c.requires.held;
       marked = omega arith;
       done = c.first-done-first.ensures;
-      room = rows_fit p q c.args.edges.now cost c.args.n (c.args.n - c.first-done-first.result) (length c.args.out.now) c.requires.explored (rows-count (program p) q cost c.args.n c.first-done-first.result c.first-done-first.ensures) c.if-count-out.false;
+      room = rows_fit p q c.args.edges.now cost c.args.n (c.args.n - c.first-done-first.result) (length c.args.out.now) c.requires.explored (rows_count (program p) q cost c.args.n c.first-done-first.result c.first-done-first.ensures) c.if-count-out.false;
     }
 
 pub returns : goal.returns
@@ -47,10 +47,10 @@ returns c =
     let p = c.args.p.now in
     let q = c.args.queue.now in
     let cost = c.mark-at-once.new.cost in (
-      rows-from (program p) q cost 0 c.args.n,
+      rows_from (program p) q cost 0 c.args.n,
       lists (program p) q c.args.edges.now cost c.args.n c.requires.explored (c.mark-at-once.ensures.marks q c.requires.explored),
-      all-states (program p) q c.args.edges.now c.args.n c.requires.explored,
-      rows-count (program p) q cost c.args.n c.first-done-first.result c.first-done-first.ensures,
+      all_states (program p) q c.args.edges.now c.args.n c.requires.explored,
+      rows_count (program p) q cost c.args.n c.first-done-first.result c.first-done-first.ensures,
       c.write-rows.ensures.written,
       c.write-rows.ensures.behind,
     )

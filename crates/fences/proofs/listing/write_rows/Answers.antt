@@ -1,8 +1,8 @@
 use Rattle.std.proofs.Common.{◌≡◌, ℕ, ◌+◌, ◌-◌, ◌<◌, ◌≤◌, length, sym, refl, ap, ◌∙◌, zero-add, arith, length-append}
 use Rattle.program.specs.Meaning.{program}
 use Rattle.fences.specs.Listing.{text}
-use Rattle.fences.specs.Rows.{one-row, rows-from}
-use Rattle.fences.proofs.RowLaws.{rows-skip, text-step, wrote-more, behind_more}
+use Rattle.fences.specs.Rows.{one_row, rows_from}
+use Rattle.fences.proofs.RowLaws.{rows_skip, text_step, wrote_more, behind_more}
 use Rattle.fences.proofs.listing.write_rows.Goals as goal
 
 pub write-row-at-requires : goal.write-row-at-requires
@@ -13,7 +13,7 @@ write-row-at-requires c =
     let i = c.loop-i.i in
     let n = c.args.n in
     let h = c.loop-i-test.true in
-    let e = ap length (text-step p q cost i n h) ∙ length-append (text (one-row p q cost i)) (text (rows-from p q cost (i + 1) (n - (i + 1)))) in
+    let e = ap length (text_step p q cost i n h) ∙ length-append (text (one_row p q cost i)) (text (rows_from p q cost (i + 1) (n - (i + 1)))) in
     let l = c.loop-i.invariant.1 in
     let r = c.requires.room in
     let k = c.loop-i.auto.out in
@@ -21,7 +21,7 @@ write-row-at-requires c =
 
 pub loop-i-init : goal.loop-i-init
 loop-i-init c =
-    let e = rows-skip (program c.args.p.now) c.args.queue.now c.args.cost.now c.args.n c.args.first c.requires.done in
+    let e = rows_skip (program c.args.p.now) c.args.queue.now c.args.cost.now c.args.n c.args.first c.requires.done in
     (ap text (sym e), zero-add _ ∙ ap (λ z. length (text z)) (sym e), refl)
 
 pub loop-i-preserved : goal.loop-i-preserved
@@ -33,10 +33,10 @@ loop-i-preserved c =
     let n = c.args.n in
     let h = c.loop-i-test.true in
     let w = c.write-row-at.ensures in
-    let e = ap length (text-step p q cost i n h) ∙ length-append (text (one-row p q cost i)) (text (rows-from p q cost (i + 1) (n - (i + 1)))) in
+    let e = ap length (text_step p q cost i n h) ∙ length-append (text (one_row p q cost i)) (text (rows_from p q cost (i + 1) (n - (i + 1)))) in
     let l = c.loop-i.invariant.1 in
     let long = w.long in (
-      wrote-more p q cost c.args.out.now c.loop-i.out c.write-row-at.new.out i n c.loop-i.at c.write-row-at.result h c.loop-i.invariant.0 w,
+      wrote_more p q cost c.args.out.now c.loop-i.out c.write-row-at.new.out i n c.loop-i.at c.write-row-at.result h c.loop-i.invariant.0 w,
       omega arith,
-      behind_more c.args.out.now c.loop-i.out c.write-row-at.new.out (text (one-row p q cost i)) c.loop-i.at c.write-row-at.result (length (text (rows-from p q cost 0 n))) w (omega arith) c.loop-i.invariant.2,
+      behind_more c.args.out.now c.loop-i.out c.write-row-at.new.out (text (one_row p q cost i)) c.loop-i.at c.write-row-at.result (length (text (rows_from p q cost 0 n))) w (omega arith) c.loop-i.invariant.2,
     )

@@ -1,14 +1,14 @@
 use Rattle.std.proofs.Common.{length, arith}
 use Rattle.program.specs.Meaning.{program}
-use Rattle.fences.proofs.Answered.{looked-post, no-program-post, few-post}
+use Rattle.fences.proofs.Answered.{looked_post, no_program_post, few_post}
 use Rattle.fences.proofs.looking.look.Goals as goal
 
 pub returns-then-work-most : goal.returns-then-work-most
-returns-then-work-most c = few-post c.args.words.now c.args.most (length c.args.work.now) c.args.out.now c.if-work-most.true
+returns-then-work-most c = few_post c.args.words.now c.args.most (length c.args.work.now) c.args.out.now c.if-work-most.true
 
 pub returns-in-default : goal.returns-in-default
-returns-in-default c = no-program-post c.args.words.now c.args.most (length c.args.work.now) c.args.out.now c.in-default.ensures c.if-work-most.false
+returns-in-default c = no_program_post c.args.words.now c.args.most (length c.args.work.now) c.args.out.now c.in-default.ensures c.if-work-most.false
 
 pub returns : goal.returns
 returns c =
-    looked-post c.args.words.now c.args.most (length c.args.work.now) c.args.out.now c.look-in.new.out (program c.in-Some.p) c.look-in.result c.in-Some.ensures (omega arith) c.if-work-most.false c.look-in.ensures
+    looked_post c.args.words.now c.args.most (length c.args.work.now) c.args.out.now c.look-in.new.out (program c.in-Some.p) c.look-in.result c.in-Some.ensures (omega arith) c.if-work-most.false c.look-in.ensures

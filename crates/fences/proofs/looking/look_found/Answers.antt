@@ -1,12 +1,12 @@
 use Rattle.std.proofs.Common.{◌≡◌, ℕ, ◌+◌, ◌*◌, ◌<◌, ◌≤◌, List, ◌++◌, map, length, take, sym, refl, ap, ◌∙◌, subst, arith}
 use mathlib.Core.Option.{some}
-use Rattle.model.specs.Machine.{begin, all-at-once}
+use Rattle.model.specs.Machine.{begin, all_at_once}
 use Rattle.program.specs.Meaning.{program}
-use Rattle.program.proofs.WriteWords.{length-program}
-use Rattle.explore.specs.Found.{move-of, state}
+use Rattle.program.proofs.WriteWords.{length_program}
+use Rattle.explore.specs.Found.{move_of, state}
 use Rattle.spots.specs.Masks.{spots}
-use Rattle.fences.specs.Told.{text-ss}
-use Rattle.fences.proofs.Answered.{cut_below, cut-length, run_length, all-written, rest-kept}
+use Rattle.fences.specs.Told.{text_ss}
+use Rattle.fences.proofs.Answered.{cut_below, cut_length, run_length, all_written, rest_kept}
 use Rattle.fences.proofs.LookLaws.{none_apart}
 use Rattle.fences.proofs.SearchLaws.{plain, shows}
 use Rattle.fences.proofs.looking.look_found.Goals as goal
@@ -19,7 +19,7 @@ returns-in-default c =
     (plain p (none_apart p q c.args.edges.now c.mark-at-once.new.cost c.args.n c.first-done-first.result x (c.mark-at-once.ensures.marks q x) c.first-done-first.ensures c.in-default.ensures), refl)
 
 pub run-to-moves-requires : goal.run-to-moves-requires
-run-to-moves-requires c = record { explored = (c.args.queue.now, c.requires.explored); parents = c.requires.parents; kept = c.requires.kept; in-from = c.requires.in-from; below = c.in-Some.ensures.1; room = refl }
+run-to-moves-requires c = record { explored = (c.args.queue.now, c.requires.explored); parents = c.requires.parents; kept = c.requires.kept; in_from = c.requires.in_from; below = c.in-Some.ensures.1; room = refl }
 
 pub returns-then-out-lt256 : goal.returns-then-out-lt256
 returns-then-out-lt256 c =
@@ -29,9 +29,9 @@ returns-then-out-lt256 c =
     let bad = c.in-Some.bad in
     let a = c.in-Some.ensures in
     let done = c.first-done-first.ensures.done bad a.0 a.1 in
-    let apart : ((ns : List ℕ) × (all-at-once p (begin p) ns ≡ some (state (length p) q bad))) → ⊥ = λ z. a.2 ((c.mark-at-once.ensures.marks q x bad a.1).1 z) in
+    let apart : ((ns : List ℕ) × (all_at_once p (begin p) ns ≡ some (state (length p) q bad))) → ⊥ = λ z. a.2 ((c.mark-at-once.ensures.marks q x bad a.1).1 z) in
     let l = c.run-to-moves.ensures q x in
-    let ms = map (move-of (length p)) (take c.run-to-moves.result c.run-to-moves.new.path) in
+    let ms = map (move_of (length p)) (take c.run-to-moves.result c.run-to-moves.new.path) in
     (ms, shows p q bad ms done apart l.run, c.if-out-lt256.true, refl)
 
 pub write-moves-requires : goal.write-moves-requires
@@ -41,8 +41,8 @@ write-moves-requires c =
     let k = c.run-to-moves.auto.path in
     let m = c.run-to-moves.result in
     let few = l.few in
-    let n = cut-length m c.run-to-moves.new.path (omega arith) in
-    let e = length-program p in
+    let n = cut_length m c.run-to-moves.new.path (omega arith) in
+    let e = length_program p in
     let o = c.if-out-lt256.false in
     record {
       few = p.few;
@@ -59,13 +59,13 @@ returns c =
     let bad = c.in-Some.bad in
     let a = c.in-Some.ensures in
     let done = c.first-done-first.ensures.done bad a.0 a.1 in
-    let apart : ((ns : List ℕ) × (all-at-once pr (begin pr) ns ≡ some (state (length pr) q bad))) → ⊥ = λ z. a.2 ((c.mark-at-once.ensures.marks q x bad a.1).1 z) in
+    let apart : ((ns : List ℕ) × (all_at_once pr (begin pr) ns ≡ some (state (length pr) q bad))) → ⊥ = λ z. a.2 ((c.mark-at-once.ensures.marks q x bad a.1).1 z) in
     let l = c.run-to-moves.ensures q x in
     let kp = c.run-to-moves.auto.path in
     let m = c.run-to-moves.result in
     let path = c.run-to-moves.new.path in
     let h : m ≤ length path = let few = l.few in omega arith in
-    let ms = map (move-of (length pr)) (take m path) in
+    let ms = map (move_of (length pr)) (take m path) in
     let f = c.write-fences-count.ensures in (
       ms,
       spots c.fewest-fences.result,
@@ -73,6 +73,6 @@ returns c =
       c.fewest-fences.ensures,
       run_length (length pr) m path h,
       f.count,
-      all-written p.count (length pr) m c.write-fences-count.result path c.args.out.now c.write-moves.new.out c.write-fences-count.new.out (text-ss (spots c.fewest-fences.result)) (sym (length-program p)) h c.write-moves.ensures.written f.written,
-      rest-kept m c.write-fences-count.result path c.args.out.now c.write-moves.new.out c.write-fences-count.new.out h c.write-moves.ensures.behind f.behind,
+      all_written p.count (length pr) m c.write-fences-count.result path c.args.out.now c.write-moves.new.out c.write-fences-count.new.out (text_ss (spots c.fewest-fences.result)) (sym (length_program p)) h c.write-moves.ensures.written f.written,
+      rest_kept m c.write-fences-count.result path c.args.out.now c.write-moves.new.out c.write-fences-count.new.out h c.write-moves.ensures.behind f.behind,
     )

@@ -1,9 +1,9 @@
 use Rattle.std.proofs.Common.{◌≡◌, ℕ, ◌+◌, ◌*◌, ◌≤◌, length, sym, refl, ap, ◌∙◌, subst, mul-le-mul_right, arith}
 use Rattle.program.specs.Meaning.{program}
-use Rattle.program.proofs.WriteWords.{length-program}
+use Rattle.program.proofs.WriteWords.{length_program}
 use Rattle.explore.specs.Found.{width, moves_of}
-use Rattle.fences.proofs.Listed.{crowded-too}
-use Rattle.fences.proofs.Answered.{looked-of}
+use Rattle.fences.proofs.Listed.{crowded_too}
+use Rattle.fences.proofs.Answered.{looked_of}
 use Rattle.fences.proofs.looking.look_in.Goals as goal
 
 pub explore-requires : goal.explore-requires
@@ -12,7 +12,7 @@ explore-requires c =
     let limit = c.states-that-fit-limit.result in
     let f = c.states-that-fit-limit.ensures in
     let fits = f.fits in
-    let l = length-program p in
+    let l = length_program p in
     let k1 = c.split-at-mut-key.ensures.front-len in
     let k2 = c.split-at-mut-key.ensures.back_len in
     let q1 = c.split-at-mut-queue.ensures.front-len in
@@ -27,7 +27,7 @@ explore-requires c =
       key = omega arith;
       ends = subst (λ (z : ℕ). limit * width z ≤ length c.split-at-mut-queue.result.0.now) (sym l) (omega arith);
       edges-end = subst (λ (z : ℕ). limit * moves_of z ≤ length c.split-at-mut-edges.result.0.now) (sym l) (omega arith);
-      in-from = omega arith;
+      in_from = omega arith;
       small = omega arith;
       fits = omega arith;
     }
@@ -38,7 +38,7 @@ look-found-requires c =
     let limit = c.states-that-fit-limit.result in
     let f = c.states-that-fit-limit.ensures in
     let fits = f.fits in
-    let l = length-program p in
+    let l = length_program p in
     let n = c.in-Some.n in
     let told = c.in-Some.ensures in
     let few = told.few in
@@ -59,12 +59,12 @@ look-found-requires c =
       held = subst (λ (z : ℕ). n * width z ≤ length c.explore.new.queue) (sym l) (omega arith);
       kept = subst (λ (z : ℕ). n * moves_of z ≤ length c.explore.new.edges) (sym l) (omega arith);
       parents = told.parents;
-      in-from = (let kf = c.explore.auto.from in omega arith);
+      in_from = (let kf = c.explore.auto.from in omega arith);
       room = omega arith;
     }
 
 pub returns-in-None : goal.returns-in-None
-returns-in-None c = ((λ m h w. crowded-too (program c.args.p.now) c.states-that-fit-limit.result m (c.states-that-fit-limit.ensures.most m h w) c.in-None.ensures), refl)
+returns-in-None c = ((λ m h w. crowded_too (program c.args.p.now) c.states-that-fit-limit.result m (c.states-that-fit-limit.ensures.most m h w) c.in-None.ensures), refl)
 
 pub returns-in-Some : goal.returns-in-Some
-returns-in-Some c = looked-of (program c.args.p.now) (length c.args.work.now) c.args.out.now c.look-found.new.out c.look-found.result c.look-found.ensures
+returns-in-Some c = looked_of (program c.args.p.now) (length c.args.work.now) c.args.out.now c.look-found.new.out c.look-found.result c.look-found.ensures

@@ -1,5 +1,5 @@
 use Rattle.std.proofs.Common.{◌≡◌, ℕ, ◌-◌, length, take, ap, arith}
-use Rattle.fences.proofs.LookLaws.{may-walk, never-long, learned}
+use Rattle.fences.proofs.LookLaws.{may_walk, never_long, learned}
 use Rattle.fences.proofs.looks.learn.Goals as goal
 
 pub walk-back-requires : goal.walk-back-requires
@@ -9,13 +9,13 @@ walk-back-requires c =
     let (cost, b) = c.requires.bad in
     record {
       few = omega arith;
-      traced = may-walk p c.args.queue.now c.args.edges.now c.args.guards c.args.n c.requires.explored cost c.args.from.now c.args.bad c.requires.kept c.requires.in-from b;
+      traced = may_walk p c.args.queue.now c.args.edges.now c.args.guards c.args.n c.requires.explored cost c.args.from.now c.args.bad c.requires.kept c.requires.in_from b;
     }
 
 pub returns-in-default : goal.returns-in-default
 returns-in-default c =
     absurd
-    (never-long c.args.p.now c.args.queue.now c.args.edges.now c.args.guards c.args.n c.requires.explored c.args.bad c.args.path.now c.walk-back.new.path
+    (never_long c.args.p.now c.args.queue.now c.args.edges.now c.args.guards c.args.n c.requires.explored c.args.bad c.args.path.now c.walk-back.new.path
     c.requires.room c.in-default.ensures)
 
 pub returns : goal.returns

@@ -1,15 +1,15 @@
 use Rattle.program.specs.Meaning.{program}
-use Rattle.fences.proofs.LookLaws.{looked, may-search, count-searched}
+use Rattle.fences.proofs.LookLaws.{looked, may_search, count_searched}
 use Rattle.fences.proofs.looks.look_at.Goals as goal
 
 pub search-requires : goal.search-requires
 search-requires c =
     let x = c.requires.explored in
     record {
-      ahead = may-search c.args.p.now c.args.queue.now c.args.edges.now c.args.guards c.args.n x c.requires.kept;
-      some = x.found.some-found;
-      in-cost = c.requires.in-cost;
-      in-from = c.requires.in-from;
+      ahead = may_search c.args.p.now c.args.queue.now c.args.edges.now c.args.guards c.args.n x c.requires.kept;
+      some = x.found.some_found;
+      in_cost = c.requires.in_cost;
+      in_from = c.requires.in_from;
     }
 
 pub returns : goal.returns
@@ -19,4 +19,4 @@ returns c =
     let g = c.args.edges.now in
     let x = c.requires.explored in
     looked (program p) q g c.args.once.now c.args.guards c.args.n c.args.first c.search.new.cost c.search.new.from c.find-bad.result x c.requires.marks c.requires.done
-    (count-searched p q g c.args.guards c.args.n x c.search.new.cost c.search.new.from c.search.ensures.searched) c.find-bad.ensures
+    (count_searched p q g c.args.guards c.args.n x c.search.new.cost c.search.new.from c.search.ensures.searched) c.find-bad.ensures

@@ -1,5 +1,5 @@
 use Rattle.std.proofs.Common.{arith}
-use Rattle.graph.proofs.Tracing.{filled-some, filled_more, filled-all, traced-leads, traced-may}
+use Rattle.graph.proofs.Tracing.{filled_some, filled_more, filled_all, traced_leads, traced_may}
 use Rattle.graph.proofs.walks.fill_path.Goals as goal
 
 pub find-move-requires : goal.find-move-requires
@@ -8,11 +8,11 @@ find-move-requires g c =
     let next = g.R.Rule.next c.args.rule.now in
     let traced = c.back.invariant.traced in
     let some =
-    filled-some can next c.args.moves c.args.from.now c.args.to c.args.len c.args.path.now c.back.at c.back.node c.back.path
+    filled_some can next c.args.moves c.args.from.now c.args.to c.args.len c.args.path.now c.back.at c.back.node c.back.path
     c.back-test.true c.back.invariant in
     record {
-      may = traced-may can next c.args.moves c.args.from.now c.back.node some traced;
-      leads = traced-leads can next c.args.moves c.args.from.now c.back.node some traced;
+      may = traced_may can next c.args.moves c.args.from.now c.back.node some traced;
+      leads = traced_leads can next c.args.moves c.args.from.now c.back.node some traced;
       fits = let h = traced.within in let r = traced.room in omega arith;
     }
 
@@ -24,5 +24,5 @@ back-preserved g c =
 
 pub returns : goal.returns
 returns g c =
-    filled-all (g.R.Rule.can c.args.rule.now) (g.R.Rule.next c.args.rule.now) c.args.moves c.args.from.now c.args.to c.args.len
+    filled_all (g.R.Rule.can c.args.rule.now) (g.R.Rule.next c.args.rule.now) c.args.moves c.args.from.now c.args.to c.args.len
     c.args.path.now c.back.at c.back.node c.back.path (omega arith) (omega arith) c.back.invariant

@@ -1,5 +1,5 @@
 use Rattle.std.proofs.Common.{arith}
-use Rattle.guard.proofs.Along.{goes_on, goes-all, no_words, no_edge, past-edges}
+use Rattle.guard.proofs.Along.{goes_on, goes_all, no_words, no_edge, past_edges}
 use Rattle.guard.proofs.path.run_hits.Goals as goal
 
 pub returns-then-node-width : goal.returns-then-node-width
@@ -10,7 +10,7 @@ returns-then-node-width c =
 pub returns-then-at-edges : goal.returns-then-at-edges
 returns-then-at-edges c =
     let l = c.along in
-    past-edges c.args.threads c.args.queue.now c.args.edges.now c.args.path.now l.node l.k l.passed l.passed (omega arith) (omega arith) l.invariant.1
+    past_edges c.args.threads c.args.queue.now c.args.edges.now c.args.path.now l.node l.k l.passed l.passed (omega arith) (omega arith) l.invariant.1
 
 pub returns-then-target-eq0 : goal.returns-then-target-eq0
 returns-then-target-eq0 c =
@@ -27,4 +27,4 @@ along-preserved c =
 pub returns : goal.returns
 returns c =
     let l = c.along in
-    goes-all c.args.threads c.args.queue.now c.args.edges.now c.args.path.now l.node l.k l.passed (omega arith) l.invariant.1
+    goes_all c.args.threads c.args.queue.now c.args.edges.now c.args.path.now l.node l.k l.passed (omega arith) l.invariant.1

@@ -1,22 +1,22 @@
 use Rattle.std.proofs.Common.{arith}
 use Rattle.std.proofs.lemmas.Bool.{both_ways}
-use Rattle.lent.proofs.Probing.{looked-more, looked-known, looked-free, told-words}
+use Rattle.lent.proofs.Probing.{looked_more, looked_known, looked_free, told_words}
 use Rattle.lent.proofs.table.find.Goals as goal
 
 pub is-record-requires : goal.is-record-requires
 is-record-requires c =
-    told-words c.args.shape c.args.queue.now c.args.table.now c.args.since c.args.n c.probe.at c.requires.probed (omega arith) (omega arith)
+    told_words c.args.shape c.args.queue.now c.args.table.now c.args.since c.args.n c.probe.at c.requires.probed (omega arith) (omega arith)
 
 pub probe-preserved : goal.probe-preserved
 probe-preserved c =
-    looked-more c.args.shape c.args.queue.now c.args.table.now c.args.since c.args.n c.args.key.now c.probe.at c.requires.probed c.requires.room c.probe.invariant (omega arith)
+    looked_more c.args.shape c.args.queue.now c.args.table.now c.args.since c.args.n c.args.key.now c.probe.at c.requires.probed c.requires.room c.probe.invariant (omega arith)
     (λ same. both_ways c.is-record.result c.if-is-record.false (c.is-record.ensures.1 same))
 
 pub returns-then-entry-since : goal.returns-then-entry-since
 returns-then-entry-since c =
-    looked-free c.args.shape c.args.queue.now c.args.table.now c.args.since c.args.n c.args.key.now c.probe.at c.requires.probed c.requires.room c.probe.invariant c.if-entry-since.true
+    looked_free c.args.shape c.args.queue.now c.args.table.now c.args.since c.args.n c.args.key.now c.probe.at c.requires.probed c.requires.room c.probe.invariant c.if-entry-since.true
 
 pub returns-then-is-record : goal.returns-then-is-record
 returns-then-is-record c =
-    looked-known c.args.shape c.args.queue.now c.args.table.now c.args.since c.args.n c.args.key.now c.probe.at c.requires.probed c.requires.room c.probe.invariant (omega arith)
+    looked_known c.args.shape c.args.queue.now c.args.table.now c.args.since c.args.n c.args.key.now c.probe.at c.requires.probed c.requires.room c.probe.invariant (omega arith)
     (c.is-record.ensures.0 c.if-is-record.true)

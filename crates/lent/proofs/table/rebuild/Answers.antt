@@ -1,6 +1,6 @@
 use Rattle.std.proofs.Common.{◌*◌, ◌≤◌, length, refl, mul-le-mul_right, arith}
 use Rattle.lent.proofs.Probing.{probed_none}
-use Rattle.lent.proofs.RecordLaws.{more-words, ends-within}
+use Rattle.lent.proofs.RecordLaws.{more_words, ends_within}
 use Rattle.lent.proofs.table.rebuild.Goals as goal
 
 pub loop-i-init : goal.loop-i-init
@@ -16,5 +16,5 @@ enter-requires c =
       probed = c.loop-i.invariant.0;
       room = omega arith;
       told = omega arith;
-      ends = omega (arith, more-words c.loop-i.i c.args.shape.width, ends-within c.args.shape.width c.args.n c.loop-i.i c.loop-i-test.true);
+      ends = omega (arith, more_words c.loop-i.i c.args.shape.width, ends_within c.args.shape.width c.args.n c.loop-i.i c.loop-i-test.true);
     }

@@ -4,19 +4,19 @@ use Rattle.program.specs.Instructions.{instruction}
 use Rattle.program.specs.Meaning.{program}
 use Rattle.machine.specs.Post.{Stepped}
 use Rattle.machine.proofs.FirstWord.{few_words}
-use Rattle.machine.proofs.StepLaws.{has-next, once-none, once-done, once-stored}
+use Rattle.machine.proofs.StepLaws.{has_next, once_none, once_done, once_stored}
 use Rattle.machine.proofs.at_once.at_once.Goals as goal
 
 pub returns-in-default : goal.returns-in-default
 returns-in-default c =
     let p = program c.args.p.now in
-    once-none p c.args.n.0 c.args.from.now c.args.to.now (has-next p c.args.n.0 c.args.from.now c.pc.result _ c.requires.holds c.requires.thread c.pc.ensures c.in-default.ensures)
+    once_none p c.args.n.0 c.args.from.now c.args.to.now (has_next p c.args.n.0 c.args.from.now c.pc.result _ c.requires.holds c.requires.thread c.pc.ensures c.in-default.ensures)
 
 pub returns-then-not-is-store : goal.returns-then-not-is-store
 returns-then-not-is-store c =
     let p = program c.args.p.now in
-    once-done p c.args.n.0 (instruction c.in-Some.i) c.args.from.now c.next.new.to
-    (has-next p c.args.n.0 c.args.from.now c.pc.result _ c.requires.holds c.requires.thread c.pc.ensures c.in-Some.ensures.0)
+    once_done p c.args.n.0 (instruction c.in-Some.i) c.args.from.now c.next.new.to
+    (has_next p c.args.n.0 c.args.from.now c.pc.result _ c.requires.holds c.requires.thread c.pc.ensures c.in-Some.ensures.0)
     (sym c.if-not-is-store.ensures)
     c.if-not-next.ensures
 
@@ -27,8 +27,8 @@ pub returns : goal.returns
 returns c =
     let p = program c.args.p.now in
     let n = c.args.n.0 in
-    once-stored p n (instruction c.in-Some.i) c.args.from.now c.next.new.to c.out.new.to c.out.result
-    (has-next p n c.args.from.now c.pc.result _ c.requires.holds c.requires.thread c.pc.ensures c.in-Some.ensures.0)
+    once_stored p n (instruction c.in-Some.i) c.args.from.now c.next.new.to c.out.new.to c.out.result
+    (has_next p n c.args.from.now c.pc.result _ c.requires.holds c.requires.thread c.pc.ensures c.in-Some.ensures.0)
     (sym c.if-not-is-store.ensures)
     c.if-not-next.ensures
     (subst (λ (ws : List ℕ). Stepped (λ (s : St). move p s (out n)) ws c.out.result c.out.new.to) c.copy-from-slice.ensures.after c.out.ensures)

@@ -1,11 +1,11 @@
 use Rattle.std.proofs.Common.{◌≡◌, ℕ, ◌<◌, List, sym, ap, ◌∙◌, subst, arith}
-use Rattle.model.specs.Machine.{does, with-thread}
+use Rattle.model.specs.Machine.{does, with_thread}
 use Rattle.program.specs.Instructions.{instruction}
 use Rattle.program.specs.Meaning.{program}
 use Rattle.machine.specs.Packed.{Packs}
-use Rattle.machine.specs.Effects.{with-words}
-use Rattle.machine.proofs.MoveLaws.{stands, instr-at, memory-is, next-none, next-some, next-held, length-put}
-use Rattle.machine.proofs.StateLaws.{put-packs}
+use Rattle.machine.specs.Effects.{with_words}
+use Rattle.machine.proofs.MoveLaws.{stands, instr_at, memory_is, next_none, next_some, next_held, length_put}
+use Rattle.machine.proofs.StateLaws.{put_packs}
 use Rattle.machine.proofs.moves.next.Goals as goal
 
 pub returns-in-default : goal.returns-in-default
@@ -13,7 +13,7 @@ returns-in-default c s h =
     let p = program c.args.p.now in
     let n = c.args.n.0 in
     let (a, e, w, l) = stands p c.args.from.now n c.words-of-thread.result c.words-of-thread.ensures c.requires.holds c.requires.thread s h in
-    next-none p s n a e (instr-at p n c.pc.result a _ (c.pc.ensures a w) c.in-default.ensures)
+    next_none p s n a e (instr_at p n c.pc.result a _ (c.pc.ensures a w) c.in-default.ensures)
 
 pub does-requires : goal.does-requires
 does-requires c =
@@ -31,8 +31,8 @@ returns-in-default-does c s h =
     let n = c.args.n.0 in
     let (a, e, w, l) = stands p c.args.from.now n c.words-of-thread.result c.words-of-thread.ensures c.requires.holds c.requires.thread s h in
     let i = instruction c.in-Some.i in
-    let m = ap (λ (m : List ℕ). does m a i) (sym (memory-is c.args.from.now s h)) in
-    next-held p s n a i e (instr-at p n c.pc.result a _ (c.pc.ensures a w) c.in-Some.ensures.0) (m ∙ c.in-default-does.ensures a w)
+    let m = ap (λ (m : List ℕ). does m a i) (sym (memory_is c.args.from.now s h)) in
+    next_held p s n a i e (instr_at p n c.pc.result a _ (c.pc.ensures a w) c.in-Some.ensures.0) (m ∙ c.in-default-does.ensures a w)
 
 pub returns : goal.returns
 returns c s h =
@@ -41,10 +41,10 @@ returns c s h =
     let (a, e, w, l) = stands p c.args.from.now n c.words-of-thread.result c.words-of-thread.ensures c.requires.holds c.requires.thread s h in
     let i = instruction c.in-Some.i in
     let (b, d, k) = c.in-Some-does.ensures a w in
-    let m = ap (λ (m : List ℕ). does m a i) (sym (memory-is c.args.from.now s h)) in
-    let same = ap (λ (z : List ℕ). with-words z n c.in-Some-does.done) c.copy-from-slice.ensures.after in (
-      with-thread s n b,
-      next-some p s n a b i e (instr-at p n c.pc.result a _ (c.pc.ensures a w) c.in-Some.ensures.0) (m ∙ d),
-      subst (λ (z : List ℕ). Packs z (with-thread s n b)) (sym (c.put-words.ensures ∙ same)) (put-packs c.args.from.now s n c.in-Some-does.done b h l k),
-      length-put s.threads n b,
+    let m = ap (λ (m : List ℕ). does m a i) (sym (memory_is c.args.from.now s h)) in
+    let same = ap (λ (z : List ℕ). with_words z n c.in-Some-does.done) c.copy-from-slice.ensures.after in (
+      with_thread s n b,
+      next_some p s n a b i e (instr_at p n c.pc.result a _ (c.pc.ensures a w) c.in-Some.ensures.0) (m ∙ d),
+      subst (λ (z : List ℕ). Packs z (with_thread s n b)) (sym (c.put-words.ensures ∙ same)) (put_packs c.args.from.now s n c.in-Some-does.done b h l k),
+      length_put s.threads n b,
     )

@@ -1,12 +1,12 @@
 use Rattle.std.proofs.Common.{◌≡◌, ◌+◌, ◌/◌, ◌%◌, ◌≤◌, sym, ap, ◌∙◌, arith}
 use Rattle.std.proofs.lemmas.Nat.{and_mask}
-use Rattle.machine.proofs.PackLaws.{word-parts, low-registers, same_at}
+use Rattle.machine.proofs.PackLaws.{word_parts, low_registers, same_at}
 use Rattle.machine.proofs.packed.unpack_thread.Goals as goal
 
 pub unpack-row-requires : goal.unpack-row-requires
 unpack-row-requires c =
     let (a, h) = c.requires in
-    let p = word-parts c.args.word c.args.values c.args.places a h in
+    let p = word_parts c.args.word c.args.values c.args.places a h in
     let f = h.0.few in
     let g = h.0.held in
     omega arith
@@ -14,7 +14,7 @@ unpack-row-requires c =
 pub invariant-of-result : goal.invariant-of-result
 invariant-of-result c =
     let (a, h) = c.requires in
-    let p = word-parts c.args.word c.args.values c.args.places a h in
+    let p = word_parts c.args.word c.args.values c.args.places a h in
     let f = h.0.few in
     let g = h.0.held in
     let m = and_mask (c.args.word / 65536) 4 in
@@ -24,4 +24,4 @@ invariant-of-result c =
     (omega arith, (omega arith, (omega arith, tt)))
 
 pub returns : goal.returns
-returns c = same_at _ _ _ _ _ _ (and_mask (c.args.word / 65536) 4) (low-registers c.args.word) c.unpack-row.ensures.is
+returns c = same_at _ _ _ _ _ _ (and_mask (c.args.word / 65536) 4) (low_registers c.args.word) c.unpack-row.ensures.is

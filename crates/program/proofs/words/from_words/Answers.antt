@@ -1,11 +1,11 @@
 use Rattle.std.proofs.Common.{◌≡◌, ◌<◌, length, get_or, refl, arith, length-set, false-eqb}
-use Rattle.program.proofs.ReadProgram.{no-thread, row_more, ok-more, stands-more, within, too_many, program-reads}
+use Rattle.program.proofs.ReadProgram.{no_thread, row_more, ok_more, stands_more, within, too_many, program_reads}
 use Rattle.program.proofs.words.from_words.Goals as goal
 
 pub returns-in-default : goal.returns-in-default
 returns-in-default c =
     let some = false-eqb (length c.args.words.now) 0 c.if-is-empty.ensures in
-    no-thread c.args.words.now c.loop-n.n c.loop-n.at (omega arith) (omega arith) c.loop-n.invariant.4 c.in-default.ensures
+    no_thread c.args.words.now c.loop-n.n c.loop-n.at (omega arith) (omega arith) c.loop-n.invariant.4 c.in-default.ensures
 
 pub loop-n-preserved : goal.loop-n-preserved
 loop-n-preserved c =
@@ -16,8 +16,8 @@ loop-n-preserved c =
       simp length-set c.loop-n.invariant.0,
       within s c.loop-n.at c.in-Some.thread b,
       row_more s c.loop-n.at c.loop-n.n c.loop-n.threads c.in-Some.thread n b c.loop-n.invariant.2,
-      ok-more c.loop-n.n c.loop-n.threads c.in-Some.thread n c.loop-n.invariant.3,
-      stands-more s c.loop-n.n c.loop-n.at c.in-Some.thread (omega arith) (omega arith) b c.loop-n.invariant.4,
+      ok_more c.loop-n.n c.loop-n.threads c.in-Some.thread n c.loop-n.invariant.3,
+      stands_more s c.loop-n.n c.loop-n.at c.in-Some.thread (omega arith) (omega arith) b c.loop-n.invariant.4,
     )
 
 pub returns-then-at-words : goal.returns-then-at-words
@@ -28,4 +28,4 @@ pub returns : goal.returns
 returns c =
     let some = false-eqb (length c.args.words.now) 0 c.if-is-empty.ensures in
     let n : c.loop-n.n ≡ get_or c.args.words.now 0 0 = omega arith in
-    program-reads c.args.words.now (get_or c.args.words.now 0 0) c.loop-n.threads (omega arith) refl (omega arith) (omega arith) c.loop-n.invariant.0 (rw (n, c.if-at-words.false) at c.loop-n.invariant.2) (rw n at c.loop-n.invariant.3)
+    program_reads c.args.words.now (get_or c.args.words.now 0 0) c.loop-n.threads (omega arith) refl (omega arith) (omega arith) c.loop-n.invariant.0 (rw (n, c.if-at-words.false) at c.loop-n.invariant.2) (rw n at c.loop-n.invariant.3)

@@ -1,5 +1,5 @@
 use Rattle.std.proofs.Common.{◌≡◌, ◌+◌, ◌*◌, ◌<◌, ◌≤◌, length, get_or, refl, inl, inr, arith, length-set}
-use Rattle.program.proofs.ReadThread.{no_words, too_short, no-instruction, ok-more, row_more, thread-begins}
+use Rattle.program.proofs.ReadThread.{no_words, too_short, no_instruction, ok_more, row_more, thread_begins}
 use Rattle.program.proofs.words.thread_from_words.Goals as goal
 use Rattle.program.proofs.words.thread_from_words.Goals.{then-len-gt8-via-then-len-gt8, then-len-gt8-via-else-len-gt8+then-words-at}
 
@@ -13,7 +13,7 @@ returns-then-len-gt8 c =
 
 pub returns-in-default : goal.returns-in-default
 returns-in-default c =
-    no-instruction c.args.words.now c.args.at c.loop-k.k c.if-at-words.false c.loop-k-test.true (omega arith)
+    no_instruction c.args.words.now c.args.at c.loop-k.k c.if-at-words.false c.loop-k-test.true (omega arith)
     c.in-default.ensures
 
 pub loop-k-preserved : goal.loop-k-preserved
@@ -23,10 +23,10 @@ loop-k-preserved c =
     let r = c.in-Some.ensures in (
       simp length-set c.loop-k.invariant.0,
       row_more c.args.words.now c.args.at c.loop-k.k c.loop-k.code c.in-Some.instruction k u r.0 c.loop-k.invariant.1,
-      ok-more c.loop-k.code c.loop-k.k c.in-Some.instruction k c.loop-k.invariant.2 r.1,
+      ok_more c.loop-k.code c.loop-k.k c.in-Some.instruction k c.loop-k.invariant.2 r.1,
     )
 
 pub returns : goal.returns
 returns c =
     let e : c.loop-k.k ≡ get_or c.args.words.now c.args.at 0 = omega arith in
-    thread-begins c.args.words.now c.args.at (get_or c.args.words.now c.args.at 0) c.loop-k.code c.if-at-words.false refl c.loop-k.invariant.0 c.if-len-gt8.false (rw e at c.loop-k.invariant.1) (rw e at c.loop-k.invariant.2)
+    thread_begins c.args.words.now c.args.at (get_or c.args.words.now c.args.at 0) c.loop-k.code c.if-at-words.false refl c.loop-k.invariant.0 c.if-len-gt8.false (rw e at c.loop-k.invariant.1) (rw e at c.loop-k.invariant.2)

@@ -1,11 +1,11 @@
 use Rattle.std.proofs.Common.{◌≡◌, ℕ, suc, ◌+◌, ◌%◌, ◌<◌, get_or, refl, ap, ◌∙◌, arith}
 use Rattle.std.proofs.lemmas.List.{drop-set-lt}
 use Rattle.lent.specs.Nibbles.{nibbles}
-use Rattle.report.proofs.Written.{fields-none, field-more}
+use Rattle.report.proofs.Written.{fields_none, field_more}
 use Rattle.report.proofs.outcomes.write_fields.Goals as goal
 
 pub loop-f-init : goal.loop-f-init
-loop-f-init c = (fields-none c.args.out.now c.args.at c.args.word, refl)
+loop-f-init c = (fields_none c.args.out.now c.args.at c.args.word, refl)
 
 pub loop-f-preserved : goal.loop-f-preserved
 loop-f-preserved c =
@@ -15,6 +15,6 @@ loop-f-preserved c =
     let w = c.args.word in
     let v = c.nibble.result in
     let e : v ≡ get_or (nibbles (suc f) w) f 0 = c.nibble.ensures.value (suc f) (omega arith) in (
-      field-more c.args.out.now o at f w v (omega arith) c.loop-f.invariant.0 e,
+      field_more c.args.out.now o at f w v (omega arith) c.loop-f.invariant.0 e,
       drop-set-lt (at + c.args.k) o (at + f) v (omega arith) ∙ c.loop-f.invariant.1,
     )

@@ -1,7 +1,7 @@
 use Rattle.std.proofs.Common.{◌≡◌, ℕ, ◌+◌, ◌*◌, List, ◌∷◌, ◌++◌, set, refl, ap, ◌∙◌, subst, arith}
 use Rattle.std.proofs.lemmas.List.{take-set, drop-set-lt}
 use Rattle.model.specs.Machine.{outcome}
-use Rattle.report.proofs.Written.{Written, written_none, written-more, written_all, drop-further}
+use Rattle.report.proofs.Written.{Written, written_none, written_more, written_all, drop_further}
 use Rattle.report.proofs.outcomes.write_outcome.Goals as goal
 
 pub loop-n-init : goal.loop-n-init
@@ -14,8 +14,8 @@ loop-n-preserved c =
     let o = c.loop-n.out in
     let o' = c.write-fields.new.out in
     let e = set c.args.out.now at c.args.once in (
-      written-more e o o' c.args.state.now at c.args.once n c.loop-n.invariant.0 c.write-fields.ensures.written,
-      drop-further (at + (1 + 4 * n) + 4) (at + (9 + 4 * c.args.threads)) o' o (omega arith) c.write-fields.ensures.behind ∙ c.loop-n.invariant.1,
+      written_more e o o' c.args.state.now at c.args.once n c.loop-n.invariant.0 c.write-fields.ensures.written,
+      drop_further (at + (1 + 4 * n) + 4) (at + (9 + 4 * c.args.threads)) o' o (omega arith) c.write-fields.ensures.behind ∙ c.loop-n.invariant.1,
     )
 
 pub returns : goal.returns
@@ -31,5 +31,5 @@ returns c =
     let w : Written e o ws at once k = subst (Written e o ws at once) q c.loop-n.invariant.0 in
     record {
       written = λ s h. written_all e o o' ws at once k s h c.requires.words w c.write-fields-2.ensures.written ∙ ap (λ (z : List ℕ). z ++ (once ∷ outcome s)) (take-set c.args.out.now at once);
-      behind = drop-further (at + (1 + 4 * k) + 8) (at + (9 + 4 * k)) o' o (omega arith) c.write-fields-2.ensures.behind ∙ c.loop-n.invariant.1 ∙ drop-set-lt (at + (9 + 4 * k)) c.args.out.now at once (omega arith);
+      behind = drop_further (at + (1 + 4 * k) + 8) (at + (9 + 4 * k)) o' o (omega arith) c.write-fields-2.ensures.behind ∙ c.loop-n.invariant.1 ∙ drop-set-lt (at + (9 + 4 * k)) c.args.out.now at once (omega arith);
     }

@@ -1,7 +1,7 @@
 use Rattle.std.proofs.Common.{ℕ, List, length, replicate, sym, refl, ap, ◌∙◌, subst, arith}
 use Rattle.program.specs.Meaning.{program}
 use Rattle.machine.specs.Post.{Holds}
-use Rattle.tests.proofs.Held.{holds-at-first}
+use Rattle.tests.proofs.Held.{holds_at_first}
 use Rattle.tests.proofs.play.play.Goals as goal
 
 pub loop-i-init : goal.loop-i-init
@@ -10,7 +10,7 @@ loop-i-init c =
     let s = c.requires.same in
     let l = c.fill.ensures.len in
     let e = c.fill.ensures.after (λ y e. e) in
-    (holds-at-first c.args.p.now c.fill.new.self (e ∙ ap (λ n. replicate n 0) k), omega arith, omega arith)
+    (holds_at_first c.args.p.now c.fill.new.self (e ∙ ap (λ n. replicate n 0) k), omega arith, omega arith)
 
 pub loop-i-preserved : goal.loop-i-preserved
 loop-i-preserved c =

@@ -3,7 +3,7 @@ use Rattle.std.proofs.lemmas.List.{length-map}
 use Rattle.text.specs.declared.tokens.Token.{Token}
 use Rattle.text.specs.Grammar.{instruction}
 use Rattle.text.specs.Meaning.{token, places}
-use Rattle.text.proofs.Few.{of-1, of-3, of-5}
+use Rattle.text.proofs.Few.{of_1, of_3, of_5}
 use Rattle.text.proofs.Forms.{other_length}
 use Rattle.text.proofs.cells.instruction.Goals as goal
 
@@ -11,21 +11,21 @@ pub returns-in-1 : goal.returns-in-1
 returns-in-1 c =
     let ts = c.args.tokens.now in
     let one : length ts ≡ 1 = omega arith in
-    let e = ap (λ (ts : List Token). instruction (places c.args.named.now) (map token ts)) (of-1 ts _ one) in
+    let e = ap (λ (ts : List Token). instruction (places c.args.named.now) (map token ts)) (of_1 ts _ one) in
     rw e (c.of-one.ensures (places c.args.named.now))
 
 pub returns-in-3 : goal.returns-in-3
 returns-in-3 c =
     let ts = c.args.tokens.now in
     let three : length ts ≡ 3 = omega arith in
-    let e = ap (λ (ts : List Token). instruction (places c.args.named.now) (map token ts)) (of-3 ts _ three) in
+    let e = ap (λ (ts : List Token). instruction (places c.args.named.now) (map token ts)) (of_3 ts _ three) in
     rw e (c.of-three.ensures (places c.args.named.now))
 
 pub returns-in-5 : goal.returns-in-5
 returns-in-5 c =
     let ts = c.args.tokens.now in
     let five : length ts ≡ 5 = omega arith in
-    let e = ap (λ (ts : List Token). instruction (places c.args.named.now) (map token ts)) (of-5 ts _ five) in
+    let e = ap (λ (ts : List Token). instruction (places c.args.named.now) (map token ts)) (of_5 ts _ five) in
     rw e c.of-five.ensures
 
 pub returns-in-default : goal.returns-in-default

@@ -6,7 +6,7 @@ use Rattle.std.proofs.lemmas.Result.{err_from_is_err_and}
 use Rattle.program.specs.Instructions.{instruction}
 use Rattle.text.specs.Grammar.{Column}
 use Rattle.text.specs.Meaning.{token, places, column}
-use Rattle.text.proofs.Filling.{no-tokens, too_many, no-instruction, one_more}
+use Rattle.text.proofs.Filling.{no_tokens, too_many, no_instruction, one_more}
 use Rattle.text.proofs.pages.does.Goals as goal
 
 pub returns-then-is-empty : goal.returns-then-is-empty
@@ -14,13 +14,13 @@ returns-then-is-empty c =
     let ts = c.args.tokens.now in
     let long = length-map ts token in
     let none = eqb-true (length ts) 0 (sym c.if-is-empty.ensures) in
-    no-tokens (places c.args.named.now) (column c.args.thread.now) (map token ts) (omega arith)
+    no_tokens (places c.args.named.now) (column c.args.thread.now) (map token ts) (omega arith)
 
 pub returns-then-len-ge-MOST-INSTRUCTIONS : goal.returns-then-len-ge-MOST-INSTRUCTIONS
 returns-then-len-ge-MOST-INSTRUCTIONS c _ =
     let ts = c.args.tokens.now in
     let long = length-map ts token in
-    let some-token = eqb-false (length ts) 0 (sym c.if-is-empty.ensures) in
+    let some_token = eqb-false (length ts) 0 (sym c.if-is-empty.ensures) in
     let code = c.args.thread.now.code in
     let size = length-map (vec_items code) instruction in
     let fits = code.ok.0 in
@@ -31,14 +31,14 @@ returns-in-err-instruction c =
     let p = err_from_is_err_and c.from-residual.result c.from-residual.ensures.1 in
     let ts = c.args.tokens.now in
     let long = length-map ts token in
-    let some-token = eqb-false (length ts) 0 (sym c.if-is-empty.ensures) in
-    rw (p.1, p.2) (λ refusal. no-instruction (places c.args.named.now) (column c.args.thread.now) (map token ts) (omega arith) (c.in-err-instruction.ensures refusal))
+    let some_token = eqb-false (length ts) 0 (sym c.if-is-empty.ensures) in
+    rw (p.1, p.2) (λ refusal. no_instruction (places c.args.named.now) (column c.args.thread.now) (map token ts) (omega arith) (c.in-err-instruction.ensures refusal))
 
 pub returns : goal.returns
 returns c =
     let ts = c.args.tokens.now in
     let long = length-map ts token in
-    let some-token = eqb-false (length ts) 0 (sym c.if-is-empty.ensures) in
+    let some_token = eqb-false (length ts) 0 (sym c.if-is-empty.ensures) in
     let code = c.args.thread.now.code in
     let size = length-map (vec_items code) instruction in
     let fits = code.ok.0 in

@@ -4,7 +4,7 @@ use Rattle.std.proofs.lemmas.Result.{IfOk-weaker}
 use Rattle.model.specs.Code.{fence}
 use Rattle.program.specs.Instructions.{instruction}
 use Rattle.text.specs.Meaning.{words, column}
-use Rattle.text.proofs.Printed.{below_at, below-past}
+use Rattle.text.proofs.Printed.{below_at, below_past}
 use Rattle.text.proofs.printing.cell.Goals as goal
 
 pub returns-then-j-len : goal.returns-then-j-len
@@ -26,4 +26,4 @@ returns c =
     let fits = code.ok.0 in
     let long = length-map (vec_items code) instruction in
     let next : j ≡ suc (j - 1) = omega arith in
-    c.new.ensures.bytes ∙ sym (below-past (words c.args.names.now) (column c.args.thread.now) j (j - 1) next (omega arith))
+    c.new.ensures.bytes ∙ sym (below_past (words c.args.names.now) (column c.args.thread.now) j (j - 1) next (omega arith))

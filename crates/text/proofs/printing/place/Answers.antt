@@ -2,7 +2,7 @@ use Rattle.std.proofs.Common.{◌≡◌, [], length, string_bytes, sym, ap, ◌�
 use Rattle.std.proofs.lemmas.List.{length-map, get_or-map}
 use Rattle.std.proofs.lemmas.Result.{IfOk-weaker}
 use Rattle.text.specs.Meaning.{words}
-use Rattle.text.proofs.Printed.{place-named, place-numeral}
+use Rattle.text.proofs.Printed.{place_named, place_numeral}
 use Rattle.text.proofs.printing.place.Goals as goal
 
 pub returns-then-k-names : goal.returns-then-k-names
@@ -11,12 +11,12 @@ returns-then-k-names c =
     let x = c.args.x.0 in
     let s = c.index-names-k.result in
     let long = length-map ns string_bytes in
-    let named = place-named (words ns) x (string_bytes s) (omega arith) (get_or-map string_bytes ns x s [] c.if-k-names.true ∙ ap string_bytes (sym c.index-names-k.is)) in
+    let named = place_named (words ns) x (string_bytes s) (omega arith) (get_or-map string_bytes ns x s [] c.if-k-names.true ∙ ap string_bytes (sym c.index-names-k.is)) in
     IfOk-weaker c.from-str.result _ _ (λ t p. p ∙ c.as-str.ensures.value ∙ sym named) c.from-str.ensures.ok
 
 pub returns : goal.returns
 returns c =
     let ns = c.args.names.now in
     let long = length-map ns string_bytes in
-    let numeral = place-numeral (words ns) c.args.x.0 (omega arith) in
+    let numeral = place_numeral (words ns) c.args.x.0 (omega arith) in
     IfOk-weaker c.format.result _ _ (λ t p. p ∙ sym numeral) c.format.ensures.ok

@@ -2,9 +2,9 @@ use Rattle.std.proofs.Common.{◌≡◌, ℕ, zero, suc, ◌+◌, ◌<◌, ◌�
 use Rattle.std.proofs.lemmas.List.{length-map, get_or-map, drop_all}
 use Rattle.text.specs.Grammar.{Column}
 use Rattle.text.specs.Meaning.{words, column}
-use Rattle.text.specs.Shows.{show-line}
+use Rattle.text.specs.Shows.{show_line}
 use Rattle.text.specs.Parts.{part}
-use Rattle.text.proofs.Printed.{lead, one-part}
+use Rattle.text.proofs.Printed.{lead, one_part}
 use Rattle.text.proofs.printing.put_line.Goals as goal
 
 pub loop-k-preserved : goal.loop-k-preserved
@@ -18,11 +18,11 @@ loop-k-preserved c =
     let long = length-map ts column in
     let last = eqb (k + 1) (length ts) in
     let put = part ns j k last d in
-    let left = lead (k + 1) (show-line ns j (drop (k + 1) cs)) in
+    let left = lead (k + 1) (show_line ns j (drop (k + 1) cs)) in
     let here = get_or-map column ts k c.index-threads-k.result d c.loop-k-test.true ∙ ap column (sym c.index-threads-k.is) in
     ap (λ (bs : List ℕ). bs ++ left) c.in-ok-put-part.ensures
     ∙ append_assoc (string_bytes c.loop-k.out) put left
-    ∙ ap (λ (bs : List ℕ). string_bytes c.loop-k.out ++ bs) (sym (one-part ns j k cs d last (omega arith) here (ap (eqb (k + 1)) (sym long))))
+    ∙ ap (λ (bs : List ℕ). string_bytes c.loop-k.out ++ bs) (sym (one_part ns j k cs d last (omega arith) here (ap (eqb (k + 1)) (sym long))))
     ∙ c.loop-k.invariant
 
 no_lead : (k : ℕ) → lead k [] ≡ []
@@ -38,5 +38,5 @@ returns c =
     let long = length-map ts column in
     let over : drop k cs ≡ [] = drop_all k cs (omega arith) in
     sym (append-nil (string_bytes c.loop-k.out))
-    ∙ ap (λ (bs : List ℕ). string_bytes c.loop-k.out ++ bs) (sym (ap (λ (ds : List Column). lead k (show-line ns c.args.j ds)) over ∙ no_lead k))
+    ∙ ap (λ (bs : List ℕ). string_bytes c.loop-k.out ++ bs) (sym (ap (λ (ds : List Column). lead k (show_line ns c.args.j ds)) over ∙ no_lead k))
     ∙ c.loop-k.invariant

@@ -4,8 +4,8 @@ use Rattle.model.specs.Code.{I, fence}
 use Rattle.program.specs.declared.instructions.Instruction.{Instruction}
 use Rattle.program.specs.Instructions.{instruction}
 use Rattle.text.specs.Meaning.{words, column}
-use Rattle.text.specs.Shows.{show-i, widest}
-use Rattle.text.proofs.Printed.{wider, widest-all}
+use Rattle.text.specs.Shows.{show_i, widest}
+use Rattle.text.proofs.Printed.{wider, widest_all}
 use Rattle.text.proofs.printing.width_of.Goals as goal
 
 pub loop-i-preserved : goal.loop-i-preserved
@@ -19,10 +19,10 @@ loop-i-preserved c =
     let long = length-map code instruction in
     let l : i < length (map instruction code) = omega arith in
     let text = c.in-ok-text.text in
-    let shown : length (string_bytes text) ≡ length (show-i ns (get_or (map instruction code) i fence)) =
+    let shown : length (string_bytes text) ≡ length (show_i ns (get_or (map instruction code) i fence)) =
     ap length c.in-ok-text.ensures
-    ∙ ap (λ (k : I). length (show-i ns k)) (sym (get_or-map instruction items i _ fence c.loop-i-test.true) ∙ ap (λ (us : List Instruction). get_or (map instruction us) i fence) same) in
-    let width : c.len.result ≡ length (show-i ns (get_or (map instruction code) i fence)) = c.len.ensures ∙ text.bytes.ok.0 ∙ shown in
+    ∙ ap (λ (k : I). length (show_i ns k)) (sym (get_or-map instruction items i _ fence c.loop-i-test.true) ∙ ap (λ (us : List Instruction). get_or (map instruction us) i fence) same) in
+    let width : c.len.result ≡ length (show_i ns (get_or (map instruction code) i fence)) = c.len.ensures ∙ text.bytes.ok.0 ∙ shown in
     c.loop-i.invariant ∙ wider ns (map instruction code) c.loop-i.most i c.len.result l width
     ∙ ap (λ (w : ℕ). widest ns w (drop (i + 1) (map instruction code))) (sym c.max-most.ensures)
 
@@ -31,4 +31,4 @@ returns c =
     let code = vec_items c.args.thread.now.code in
     let size = ap length c.as-slice-i-items.ensures.value in
     let long = length-map code instruction in
-    sym (c.loop-i.invariant ∙ widest-all (words c.args.names.now) (map instruction code) c.loop-i.most c.loop-i.i-index (omega arith))
+    sym (c.loop-i.invariant ∙ widest_all (words c.args.names.now) (map instruction code) c.loop-i.most c.loop-i.i-index (omega arith))

@@ -1,26 +1,26 @@
 use Rattle.std.proofs.Common.{◌≡◌, ℕ, ◌<◌, length, sym, ◌∙◌, subst, arith}
 use Rattle.std.proofs.lemmas.Bool.{eqb-true, eqb-false}
 use Rattle.text.specs.Bytes.{run, letter}
-use Rattle.text.specs.Kinds.{First-token}
-use Rattle.text.proofs.Scanning.{first_word, first-sign, first-none, first-empty}
+use Rattle.text.specs.Kinds.{FirstToken}
+use Rattle.text.proofs.Scanning.{first_word, first_sign, first_none, first_empty}
 use Rattle.text.proofs.tokens.token_len.Goals as goal
 
 pub returns-then-letters-gt0 : goal.returns-then-letters-gt0
 returns-then-letters-gt0 c =
     let e = c.run-letters.ensures.value in
-    subst (First-token c.args.bytes.now) (sym e) (first_word c.args.bytes.now (omega arith))
+    subst (FirstToken c.args.bytes.now) (sym e) (first_word c.args.bytes.now (omega arith))
 
 pub returns-then-is-empty : goal.returns-then-is-empty
-returns-then-is-empty c = first-empty c.args.bytes.now 0 (eqb-true _ 0 (sym c.if-is-empty.ensures)) (omega arith)
+returns-then-is-empty c = first_empty c.args.bytes.now 0 (eqb-true _ 0 (sym c.if-is-empty.ensures)) (omega arith)
 
 pub returns-then-has : goal.returns-then-has
 returns-then-has c =
     let ne = eqb-false _ 0 (sym c.if-is-empty.ensures) in
     let e = c.run-letters.ensures.value in
-    first-sign c.args.bytes.now (omega arith) (omega arith) (sym c.if-has.ensures)
+    first_sign c.args.bytes.now (omega arith) (omega arith) (sym c.if-has.ensures)
 
 pub returns-else-has : goal.returns-else-has
 returns-else-has c =
     let ne = eqb-false _ 0 (sym c.if-is-empty.ensures) in
     let e = c.run-letters.ensures.value in
-    first-none c.args.bytes.now (omega arith) (omega arith) (sym c.if-has.ensures)
+    first_none c.args.bytes.now (omega arith) (omega arith) (sym c.if-has.ensures)

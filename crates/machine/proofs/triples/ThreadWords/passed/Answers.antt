@@ -1,9 +1,9 @@
 use Rattle.std.proofs.Common.{arith}
-use Rattle.machine.proofs.WordLaws.{first-few, passed-packs}
+use Rattle.machine.proofs.WordLaws.{first_few, passed_packs}
 use Rattle.machine.proofs.triples.ThreadWords.passed.Goals as goal
 
 pub overflow-add-result : goal.overflow-add-result
-overflow-add-result c = let (a, h, pc) = c.requires in omega (arith, first-few _ _ _ a h)
+overflow-add-result c = let (a, h, pc) = c.requires in omega (arith, first_few _ _ _ a h)
 
 pub returns : goal.returns
-returns c a h pc = let t = c.args.self in passed-packs t.first t.values t.places a h pc
+returns c a h pc = let t = c.args.self in passed_packs t.first t.values t.places a h pc

@@ -1,15 +1,15 @@
 use Rattle.std.proofs.Common.{◌≡◌, ℕ, List, sym, ap, ◌∙◌, arith}
 use Rattle.model.specs.Machine.{Wait, newest}
 use Rattle.machine.specs.Packed.{pairs}
-use Rattle.machine.proofs.PackLaws.{word-parts}
+use Rattle.machine.proofs.PackLaws.{word_parts}
 use Rattle.machine.proofs.Did.{read_small}
-use Rattle.machine.proofs.WordLaws.{no-waits, row_is}
+use Rattle.machine.proofs.WordLaws.{no_waits, row_is}
 use Rattle.machine.proofs.triples.ThreadWords.read.Goals as goal
 
 pub returns-then-len-eq0 : goal.returns-then-len-eq0
 returns-then-len-eq0 c =
     record {
-      value = λ a h. ap (λ (ws : List Wait). newest ws c.args.place.0 c.args.memory) (sym (no-waits a.waits (sym (c.waiting-len.ensures a h) ∙ c.if-len-eq0.true)));
+      value = λ a h. ap (λ (ws : List Wait). newest ws c.args.place.0 c.args.memory) (sym (no_waits a.waits (sym (c.waiting-len.ensures a h) ∙ c.if-len-eq0.true)));
       small = c.requires.small;
     }
 
@@ -31,7 +31,7 @@ returns c =
           e
           ∙ ap (λ (ws : List Wait). newest ws c.args.place.0 c.args.memory)
           (c.unpack-row.ensures.is
-          ∙ ap (λ (k : ℕ). pairs k t.values t.places) (c.waiting-len.ensures a h ∙ sym (word-parts t.first t.values t.places a h).1)
+          ∙ ap (λ (k : ℕ). pairs k t.values t.places) (c.waiting-len.ensures a h ∙ sym (word_parts t.first t.values t.places a h).1)
           ∙ row_is t.first t.values t.places a h);
       small = omega arith;
     }

@@ -1,20 +1,20 @@
 use Rattle.std.proofs.Common.{◌≡◌, ℕ, ◌+◌, ◌*◌, List, sym, subst, arith}
 use Rattle.machine.specs.Packed.{Packs}
-use Rattle.replay.proofs.StateWords.{part-is, part-long, value-past, value-is}
+use Rattle.replay.proofs.StateWords.{part_is, part_long, value_past, value_is}
 use Rattle.replay.proofs.runs.Run.value.Goals as goal
 
 pub write-outcome-requires : goal.write-outcome-requires
 write-outcome-requires c =
     let r = c.args.self.now in
     let f = r.p.few in
-    record { words = part-long r.p.count r.words r.long f; room = omega arith }
+    record { words = part_long r.p.count r.words r.long f; room = omega arith }
 
 pub returns-then-at-threads : goal.returns-then-at-threads
 returns-then-at-threads c =
     let r = c.args.self.now in
-    λ s k. value-past r.p.count c.args.at c.write-outcome.new.out s c.write-outcome.auto.out r.p.few c.if-at-threads.true (c.write-outcome.ensures.written s (subst (λ (ws : List ℕ). Packs ws s) (sym (part-is (1 + 3 * r.p.count) r.words)) k))
+    λ s k. value_past r.p.count c.args.at c.write-outcome.new.out s c.write-outcome.auto.out r.p.few c.if-at-threads.true (c.write-outcome.ensures.written s (subst (λ (ws : List ℕ). Packs ws s) (sym (part_is (1 + 3 * r.p.count) r.words)) k))
 
 pub returns : goal.returns
 returns c =
     let r = c.args.self.now in
-    λ s k. value-is r.p.count c.args.at c.write-outcome.new.out s c.if-at-threads.false (c.write-outcome.ensures.written s (subst (λ (ws : List ℕ). Packs ws s) (sym (part-is (1 + 3 * r.p.count) r.words)) k))
+    λ s k. value_is r.p.count c.args.at c.write-outcome.new.out s c.if-at-threads.false (c.write-outcome.ensures.written s (subst (λ (ws : List ℕ). Packs ws s) (sym (part_is (1 + 3 * r.p.count) r.words)) k))

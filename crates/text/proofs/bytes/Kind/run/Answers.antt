@@ -1,6 +1,6 @@
 use Rattle.std.proofs.Common.{◌≡◌, ◌≤◌, length, sym, ◌∙◌, arith}
 use Rattle.text.specs.Kinds.{test}
-use Rattle.text.proofs.Runs.{run_more, run_ends, run-over}
+use Rattle.text.proofs.Runs.{run_more, run_ends, run_over}
 use Rattle.text.proofs.bytes.Kind.run.Goals as goal
 
 pub returns-then-not-has : goal.returns-then-not-has
@@ -16,6 +16,6 @@ loop-i-preserved c =
 
 pub returns : goal.returns
 returns c =
-    let over = run-over (test c.args.self) c.args.bytes.now c.loop-i.i c.loop-i-test.false c.loop-i.invariant in
+    let over = run_over (test c.args.self) c.args.bytes.now c.loop-i.i c.loop-i-test.false c.loop-i.invariant in
     let end : length c.args.bytes.now ≡ c.loop-i.i = omega arith in
     record { value = end ∙ sym over; within = omega arith }

@@ -6,21 +6,21 @@ use Rattle.text.specs.declared.tokens.Token.{Token}
 use Rattle.text.specs.Bytes.{Word, tokens}
 use Rattle.text.specs.Grammar.{Column, names}
 use Rattle.text.specs.Meaning.{token, column, page}
-use Rattle.text.proofs.Few.{of-1}
-use Rattle.text.proofs.Headings.{not-one, no_word, known, fifth, a-name, begins-not, begins-is}
-use Rattle.text.proofs.PlaceNames.{word-utf8}
+use Rattle.text.proofs.Few.{of_1}
+use Rattle.text.proofs.Headings.{not_one, no_word, known, fifth, a_name, begins_not, begins_is}
+use Rattle.text.proofs.PlaceNames.{word_utf8}
 use Rattle.text.proofs.pages.Page.begin.Goals as goal
 
 -- one token
 single : (ts : List Token) (t : Token) → length ts ≡ 1 → t ≡ get_or ts 0 t → map token ts ≡ token t ∷ []
-single ts t l e = ap (map token) (of-1 ts t l ∙ ap (λ (u : Token). u ∷ []) (sym e))
+single ts t l e = ap (map token) (of_1 ts t l ∙ ap (λ (u : Token). u ∷ []) (sym e))
 
 pub returns-then-len-ne1 : goal.returns-then-len-ne1
 returns-then-len-ne1 c _ =
     let ts = vec_items c.in-ok-tokens.tokens in
     let fits = c.in-ok-tokens.tokens.ok.0 in
     let long = length-map ts token in
-    begins-not (page c.args.self.now) c.args.cell.now (map token ts) c.in-ok-tokens.ensures (not-one (names (page c.args.self.now).columns) (map token ts) (omega arith))
+    begins_not (page c.args.self.now) c.args.cell.now (map token ts) c.in-ok-tokens.ensures (not_one (names (page c.args.self.now).columns) (map token ts) (omega arith))
 
 pub returns-then-not-is-word : goal.returns-then-not-is-word
 returns-then-not-is-word c _ =
@@ -28,7 +28,7 @@ returns-then-not-is-word c _ =
     let t = c.index-word.result.now in
     let fits = c.in-ok-tokens.tokens.ok.0 in
     let seen = c.in-ok-tokens.ensures ∙ ap (λ (ws : List Word). some ws) (single ts t (omega arith) c.index-word.ensures) in
-    begins-not (page c.args.self.now) c.args.cell.now (token t ∷ []) seen (no_word (names (page c.args.self.now).columns) (token t) (sym c.if-not-is-word.ensures))
+    begins_not (page c.args.self.now) c.args.cell.now (token t ∷ []) seen (no_word (names (page c.args.self.now).columns) (token t) (sym c.if-not-is-word.ensures))
 
 pub returns-then-has : goal.returns-then-has
 returns-then-has c _ =
@@ -36,7 +36,7 @@ returns-then-has c _ =
     let t = c.index-word.result.now in
     let fits = c.in-ok-tokens.tokens.ok.0 in
     let seen = c.in-ok-tokens.ensures ∙ ap (λ (ws : List Word). some ws) (single ts t (omega arith) c.index-word.ensures) in
-    begins-not (page c.args.self.now) c.args.cell.now (token t ∷ []) seen (known (names (page c.args.self.now).columns) (token t) (sym c.if-has.ensures))
+    begins_not (page c.args.self.now) c.args.cell.now (token t ∷ []) seen (known (names (page c.args.self.now).columns) (token t) (sym c.if-has.ensures))
 
 pub returns-then-len-ge-MOST-THREADS : goal.returns-then-len-ge-MOST-THREADS
 returns-then-len-ge-MOST-THREADS c _ =
@@ -47,7 +47,7 @@ returns-then-len-ge-MOST-THREADS c _ =
     let many = c.args.self.now.threads.ok.0 in
     let long = length-map (map column threads) (λ (c : Column). c.name) ∙ length-map threads column in
     let seen = c.in-ok-tokens.ensures ∙ ap (λ (ws : List Word). some ws) (single ts t (omega arith) c.index-word.ensures) in
-    begins-not (page c.args.self.now) c.args.cell.now (token t ∷ []) seen (fifth (names (map column threads)) (token t) (omega arith))
+    begins_not (page c.args.self.now) c.args.cell.now (token t ∷ []) seen (fifth (names (map column threads)) (token t) (omega arith))
 
 pub returns : goal.returns
 returns c =
@@ -59,9 +59,9 @@ returns c =
     let long = length-map (map column threads) (λ (c : Column). c.name) ∙ length-map threads column in
     let is_IsWord = sym c.if-not-is-word.ensures in
     let seen = c.in-ok-tokens.ensures ∙ ap (λ (ws : List Word). some ws) (single ts t (omega arith) c.index-word.ensures) in
-    let name : token t ≡ string_bytes c.in-ok-name.name = sym (c.in-ok-name.ensures.ok (word-utf8 (token t) is_IsWord)) in
+    let name : token t ≡ string_bytes c.in-ok-name.name = sym (c.in-ok-name.ensures.ok (word_utf8 (token t) is_IsWord)) in
     let empty = ap (map instruction) (sym c.new.ensures.items) in
     let more = sym (map_push column threads _) ∙ ap (map column) (sym c.in-ok-push.ensures.items) in
-    begins-is (page c.args.self.now) c.args.cell.now (token t ∷ []) seen (token t) (a-name (names (map column threads)) (token t) is_IsWord (sym c.if-has.ensures) (omega arith))
+    begins_is (page c.args.self.now) c.args.cell.now (token t ∷ []) seen (token t) (a_name (names (map column threads)) (token t) is_IsWord (sym c.if-has.ensures) (omega arith))
     ∙ (λ i. some (record { columns = map column threads ++ record { name = name i; code = empty i } ∷ []; places = (page c.args.self.now).places }))
     ∙ (λ i. some (record { columns = more i; places = (page c.args.self.now).places }))

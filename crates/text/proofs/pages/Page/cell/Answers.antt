@@ -8,14 +8,14 @@ use Rattle.text.specs.declared.source.Thread.{Thread}
 use Rattle.text.specs.Bytes.{tokens}
 use Rattle.text.specs.Grammar.{Column}
 use Rattle.text.specs.Meaning.{token, places, column, page}
-use Rattle.text.proofs.Filling.{nth-at, put-set, cell-is, cell-not}
+use Rattle.text.proofs.Filling.{nth_at, put_set, cell_is, cell_not}
 use Rattle.text.proofs.pages.Page.cell.Goals as goal
 
 -- the column that the call was lent
 lent : (ts : List Thread) (k : ℕ) (t : Thread) → k < length ts → t ≡ get_or ts k t → nth (map column ts) k ≡ some (column t)
 lent ts k t l e =
     let long = length-map ts column in
-    nth-at (map column ts) k (column t) (omega arith) ∙ ap (λ (c : Column). some c) (get_or-map column ts k t (column t) l ∙ ap column (sym e))
+    nth_at (map column ts) k (column t) (omega arith) ∙ ap (λ (c : Column). some c) (get_or-map column ts k t (column t) l ∙ ap column (sym e))
 
 pub returns-in-err-does : goal.returns-in-err-does
 returns-in-err-does c =
@@ -23,7 +23,7 @@ returns-in-err-does c =
     let fits = c.args.self.now.threads.ok.0 in
     let seen = c.in-ok-tokens.ensures ∙ ap (λ (ts : List Token). some (map token ts)) (sym c.as-slice.ensures.value) in
     rw (p.1, p.2) (λ refusal.
-    cell-not c.args.k (page c.args.self.now) c.args.bytes.now (column c.index-mut.result.now)
+    cell_not c.args.k (page c.args.self.now) c.args.bytes.now (column c.index-mut.result.now)
     (lent (vec_items c.args.self.now.threads) c.args.k c.index-mut.result.now (omega arith) c.index-mut.ensures.value)
     _ seen (c.in-err-does.ensures refusal))
 
@@ -32,7 +32,7 @@ returns c =
     let fits = c.args.self.now.threads.ok.0 in
     let seen = c.in-ok-tokens.ensures ∙ ap (λ (ts : List Token). some (map token ts)) (sym c.as-slice.ensures.value) in
     let threads = vec_items c.args.self.now.threads in
-    cell-is c.args.k (page c.args.self.now) c.args.bytes.now (column c.index-mut.result.now)
+    cell_is c.args.k (page c.args.self.now) c.args.bytes.now (column c.index-mut.result.now)
     (lent threads c.args.k c.index-mut.result.now (omega arith) c.index-mut.ensures.value)
     _ (places c.does.new.named) (column c.does.new.thread) seen c.in-ok-does.ensures
-    ∙ (λ i. some (record { columns = (put-set (map column threads) c.args.k (column c.does.new.thread) ∙ sym (map-set column threads c.args.k c.does.new.thread)) i; places = places c.does.new.named }))
+    ∙ (λ i. some (record { columns = (put_set (map column threads) c.args.k (column c.does.new.thread) ∙ sym (map-set column threads c.args.k c.does.new.thread)) i; places = places c.does.new.named }))

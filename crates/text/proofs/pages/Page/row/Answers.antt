@@ -5,8 +5,8 @@ use Rattle.std.proofs.lemmas.Result.{err_from_is_err_and}
 use Rattle.text.specs.Bytes.{pieces}
 use Rattle.text.specs.Grammar.{Page, row, cell}
 use Rattle.text.specs.Meaning.{page, column}
-use Rattle.text.proofs.Filling.{cell-past}
-use Rattle.text.proofs.Turns.{row_more, row_last, row-none}
+use Rattle.text.proofs.Filling.{cell_past}
+use Rattle.text.proofs.Turns.{row_more, row_last, row_none}
 use Rattle.text.proofs.pages.Page.row.Goals as goal
 
 pub returns-then-k-len : goal.returns-then-k-len
@@ -17,7 +17,7 @@ returns-then-k-len c _ =
     let fits = threads.ok.0 in
     let long = length-map (vec_items threads) column in
     c.loop-k.invariant.1 ∙
-    row-none 124 rest (take n rest) n c.run-n.ensures.value (λ i. take n rest) c.loop-k.k (page c.loop-k.self) (cell-past c.loop-k.k (page c.loop-k.self) (take n rest) (omega arith))
+    row_none 124 rest (take n rest) n c.run-n.ensures.value (λ i. take n rest) c.loop-k.k (page c.loop-k.self) (cell_past c.loop-k.k (page c.loop-k.self) (take n rest) (omega arith))
 
 pub returns-in-err-cell : goal.returns-in-err-cell
 returns-in-err-cell c =
@@ -26,7 +26,7 @@ returns-in-err-cell c =
     let n = c.run-n.result in
     let width : n - 0 ≡ n = omega arith in
     rw (p.1, p.2) (λ refusal. c.loop-k.invariant.1 ∙
-    row-none 124 rest _ n c.run-n.ensures.value (ap (λ (m : ℕ). take m rest) width) c.loop-k.k (page c.loop-k.self) (c.in-err-cell.ensures refusal))
+    row_none 124 rest _ n c.run-n.ensures.value (ap (λ (m : ℕ). take m rest) width) c.loop-k.k (page c.loop-k.self) (c.in-err-cell.ensures refusal))
 
 pub returns-then-n-rest : goal.returns-then-n-rest
 returns-then-n-rest c =

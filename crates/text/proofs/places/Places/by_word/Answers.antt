@@ -4,7 +4,7 @@ use Rattle.std.specs.declared.alloc.Global.{Global}
 use Rattle.std.proofs.lemmas.List.{length-map, map_push}
 use Rattle.text.specs.Bytes.{Word, index_of}
 use Rattle.text.specs.Meaning.{places, words}
-use Rattle.text.proofs.PlaceNames.{full, new, word-utf8}
+use Rattle.text.proofs.PlaceNames.{full, new, word_utf8}
 use Rattle.text.proofs.places.Places.by_word.Goals as goal
 
 pub returns-then-next-eq8 : goal.returns-then-next-eq8
@@ -25,7 +25,7 @@ returns c =
     let fits = c.args.self.now.words.ok.0 in
     let few = c.args.self.now.few in
     let more : words ws ++ w ∷ [] ≡ words (vec_items c.push.new.self) =
-    ap (λ (v : Word). words ws ++ v ∷ []) (sym (c.in-ok-from-utf8-lossy.ensures.ok (word-utf8 w c.requires)))
+    ap (λ (v : Word). words ws ++ v ∷ []) (sym (c.in-ok-from-utf8-lossy.ensures.ok (word_utf8 w c.requires)))
     ∙ sym (map_push string_bytes ws c.in-ok-from-utf8-lossy.field-0) ∙ ap (map string_bytes) (sym c.in-ok-push.ensures.items) in
     let next : length (words ws) ≡ c.len-next.result = omega arith in
     new (places c.args.self.now) w c.if-self.false none_yet (omega arith)
