@@ -1,4 +1,6 @@
 // The calls for C and Rust, as a static library: include/fences.h declares them. A slice is a pointer and then a length.
+#![tactic(auto)]
+
 ghost use Rattle.std.specs.Prelude.{◌≡◌, length};
 ghost use Rattle.capi.specs.Told.{looked_as, listed_as, LookedC, ListedC};
 

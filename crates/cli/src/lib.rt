@@ -1,4 +1,6 @@
 // What the programs share: their arguments, what they read, and what they say where they can't answer.
+#![tactic(auto)]
+
 pub mod arguments;
 pub mod fenced;
 pub mod files;

@@ -22,11 +22,12 @@ struct Lines {
 }
 
 impl Lines {
-    fn new(rt: &HostRuntime) -> Lines {
-        Lines {
-            reader: BufReader::new(rt.stdin()),
-            number: 0,
-        }
+    fn new(rt: &HostRuntime) -> Result<Lines, Trouble> {
+        // all that can fail here is to get the buffer's memory
+        let Ok(reader) = BufReader::new(rt.alloc(), rt.stdin()) else {
+            return Err(Trouble::Memory);
+        };
+        Ok(Lines { reader, number: 0 })
     }
 
     // The next byte, if the input has not ended.
@@ -62,7 +63,7 @@ impl Lines {
 // Answers for each line in turn, up to the end or to the first line that is refused.
 pub fn answer<A: ForWords>(rt: &HostRuntime, answers: &mut A) -> Result<(), Trouble> {
     let heap = rt.alloc();
-    let mut lines = Lines::new(rt);
+    let mut lines = Lines::new(rt)?;
     for _ in 0..u64::MAX {
         let Some(line) = lines.line(heap)? else {
             break;

@@ -2,6 +2,8 @@
 // COUNT programs made at random of up to three threads, and of each of these with one word damaged. Compares what is no
 // program, the outcomes with and without waiting stores, plain or not, and the fewest fences; and replays the told runs
 // as orders. Prints every difference in full, and counts by kind.
+#![tactic(auto)]
+
 mod answers;
 mod by_orders;
 mod by_states;

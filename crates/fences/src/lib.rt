@@ -1,4 +1,6 @@
 // The public calls: all outcomes of a program, and the fewest fences for it.
+#![tactic(auto)]
+
 pub mod fewest;
 pub mod found;
 pub mod listing;

@@ -29,8 +29,8 @@ fn relax(edge: Edge, node: usize, cost_here: u32, cost: &mut [u32], from: &mut [
 // Goes along all edges of `node`, if it was come to.
 fn visit<R: Rule>(rule: &R, moves: usize, node: usize, cost: &mut [u32], from: &mut [u32])
     requires within { node < length cost.old }
-    requires steps { Steps (can rule.now node) (next rule.now node) moves node cost.old from.old }
-    ensures { Grown (λ k. (0 < slice_index cost.old node) × Leads (next rule.now) moves node k) node cost.old from.old cost.new from.new }
+    requires steps { Steps (R.can rule.now node) (R.next rule.now node) moves node cost.old from.old }
+    ensures { Grown (λ k. (0 < slice_index cost.old node) × Leads (R.next rule.now) moves node k) node cost.old from.old cost.new from.new }
 {
     let cost_here = cost[node];
     if cost_here == 0 {
@@ -53,11 +53,11 @@ fn begin(n: usize, cost: &mut [u32])
 
 // Marks the nodes that walks from node 0 lead to, with their least costs, and where each was come to from.
 pub fn search<R: Rule>(rule: &R, n: usize, moves: usize, cost: &mut [u32], from: &mut [u32])
-    requires ahead { Ahead (can rule.now) (next rule.now) moves n }
+    requires ahead { Ahead (R.can rule.now) (R.next rule.now) moves n }
     requires some { 0 < n }
     requires in_cost { n ≤ length cost.old }
     requires in_from { n ≤ length from.old }
-    ensures searched { Searched (next rule.now) moves n cost.new from.new }
+    ensures searched { Searched (R.next rule.now) moves n cost.new from.new }
     ensures cost_behind { drop n cost.new ≡ drop n cost.old }
     ensures from_behind { drop n from.new ≡ drop n from.old }
 {

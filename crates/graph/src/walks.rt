@@ -24,11 +24,11 @@ fn count_links(from: &[u32], to: usize) -> usize
 // The first move that leads from `node` to `to`. Where several do, at different costs, it may not be the one that the search
 // counted.
 fn find_move<R: Rule>(rule: &R, moves: usize, node: usize, to: usize) -> usize
-    requires may { (m : ℕ) → m < moves → can rule.now node m }
-    requires leads { Leads (next rule.now) moves node to }
+    requires may { (m : ℕ) → m < moves → R.can rule.now node m }
+    requires leads { Leads (R.next rule.now) moves node to }
     requires fits { to + 1 < 2 ^ 64 }
     ensures below { result < moves }
-    ensures leads { next rule.now node result ≡ suc to }
+    ensures leads { R.next rule.now node result ≡ suc to }
 {
     for m in 0..moves {
         if rule.edge(node, m).target as usize == to + 1 {
@@ -41,10 +41,10 @@ fn find_move<R: Rule>(rule: &R, moves: usize, node: usize, to: usize) -> usize
 // Writes the moves of the walk to `to` into the first `len` words, the last move first.
 fn fill_path<R: Rule>(rule: &R, moves: usize, from: &[u32], to: usize, len: usize, path: &mut [u32])
     requires few { moves ≤ 2 ^ 32 }
-    requires traced { Traced (can rule.now) (next rule.now) moves from.now to }
+    requires traced { Traced (R.can rule.now) (R.next rule.now) moves from.now to }
     requires links { Links from.now len to }
     requires room { len ≤ length path.old }
-    ensures { Written (next rule.now) moves to len path.old path.new }
+    ensures { Written (R.next rule.now) moves to len path.old path.new }
 {
     let mut node = to;
     let mut at = len;
@@ -66,8 +66,8 @@ pub fn walk_back<R: Rule>(
     path: &mut [u32],
 ) -> Option<usize>
     requires few { moves ≤ 2 ^ 32 }
-    requires traced { Traced (can rule.now) (next rule.now) moves from.now to }
-    ensures { Told (next rule.now) moves to path.old path.new result }
+    requires traced { Traced (R.can rule.now) (R.next rule.now) moves from.now to }
+    ensures { Told (R.next rule.now) moves to path.old path.new result }
 {
     let len = count_links(from, to);
     if len > path.len() {

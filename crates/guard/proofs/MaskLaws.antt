@@ -9,7 +9,7 @@ use Rattle.model.specs.Guards.{On, on_first, on_more}
 use Rattle.model.proofs.Tools.{false_true, and_both, eqb_is}
 use Rattle.model.proofs.RunsUnderGuards.{on_inv}
 use Rattle.hitting.specs.Masks.{bit}
-use Rattle.hitting.proofs.Bits.{bit_lt, bit_or, bit_one, bit_other, some_bit, same_bits, shared_bit, bit_shared}
+use Rattle.hitting.proofs.Bits.{bit_lt, bit_of_or, bit_one, bit_other, some_bit, same_bits, shared_bit, bit_shared}
 use Rattle.guard.specs.Masks.{place, has_place, bit_of, masked, mask}
 
 -- which spots have a bit
@@ -71,7 +71,7 @@ pub on_mask : (ss : List Spot) (a : Spot) → On a ss → a.thread < 4 → a.ind
 on_mask [] a o h l = absurd (on_inv o)
 on_mask (s ∷ ss) a o h l =
     let b = place a.thread a.index in
-    let or = bit_or (bit_of s.thread s.index) (mask ss) b in
+    let or = bit_of_or (bit_of s.thread s.index) (mask ss) b in
     let x = bit_lt (bit_of s.thread s.index) b in
     let y = bit_lt (mask ss) b in
     elim (on_inv o) [
@@ -85,7 +85,7 @@ pub mask_on : (ss : List Spot) (b : ℕ) → bit (mask ss) b ≡ 1 → (a : Spot
 mask_on [] b e = let z = some_bit 0 b e in absurd (omega arith)
 mask_on (s ∷ ss) b e =
     let x = bit_lt (bit_of s.thread s.index) b in
-    let or = bit_or (bit_of s.thread s.index) (mask ss) b in
+    let or = bit_of_or (bit_of s.thread s.index) (mask ss) b in
     elim (cases_eq (bit (bit_of s.thread s.index) b) 1) [
       | inl f ↦ let (h, l, q) = bit_set s.thread s.index b f in (s, on_first, h, l, q)
       | inr f ↦
@@ -98,7 +98,7 @@ mask_on (s ∷ ss) b e =
 or_assoc : (n x y z : ℕ) → x < 2 ^ n → y < 2 ^ n → z < 2 ^ n → bit_or (bit_or x y) z ≡ bit_or x (bit_or y z)
 or_assoc n x y z h k l =
     same_bits n (bit_or (bit_or x y) z) (bit_or x (bit_or y z)) (or_lt n (bit_or x y) z (or_lt n x y h k) l) (or_lt n x (bit_or y z) h (or_lt n y z k l))
-    (λ b u. let a = bit_or (bit_or x y) z b in let c = bit_or x y b in let d = bit_or x (bit_or y z) b in let e = bit_or y z b in omega arith)
+    (λ b u. let a = bit_of_or (bit_or x y) z b in let c = bit_of_or x y b in let d = bit_of_or x (bit_or y z) b in let e = bit_of_or y z b in omega arith)
 
 pub mask_append : (ss ts : List Spot) → mask (ss ++ ts) ≡ bit_or (mask ss) (mask ts)
 mask_append [] ts = sym (or_zero_l (mask ts))

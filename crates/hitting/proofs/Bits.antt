@@ -50,8 +50,8 @@ same_bits (suc n) x y h k e =
     let i = same_bits n (x / 2) (y / 2) (omega arith) (omega arith) (λ b l. sym (bit_more x b) ∙ e (suc b) (omega arith) ∙ bit_more y b) in
     omega arith
 
-pub bit_and : (x y b : ℕ) → bit (bit_and x y) b ≡ min (bit x b) (bit y b)
-bit_and x y b =
+pub bit_of_and : (x y b : ℕ) → bit (bit_and x y) b ≡ min (bit x b) (bit y b)
+bit_of_and x y b =
     let a = bit_is x b in
     let c = bit_is y b in
     let e = bit_is (bit_and x y) b in
@@ -59,8 +59,8 @@ bit_and x y b =
     let s = and_step (x / 2 ^ b) (y / 2 ^ b) in
     omega arith
 
-pub bit_or : (x y b : ℕ) → bit (bit_or x y) b ≡ max (bit x b) (bit y b)
-bit_or x y b =
+pub bit_of_or : (x y b : ℕ) → bit (bit_or x y) b ≡ max (bit x b) (bit y b)
+bit_of_or x y b =
     let a = bit_is x b in
     let c = bit_is y b in
     let e = bit_is (bit_or x y) b in
@@ -70,7 +70,7 @@ bit_or x y b =
 
 pub within_bit : (x u b : ℕ) → Within x u → bit x b ≡ 1 → bit u b ≡ 1
 within_bit x u b w e =
-    let a = bit_and x u b in
+    let a = bit_of_and x u b in
     let s = ap (λ z. bit z b) w in
     let l = bit_lt u b in
     omega arith
@@ -133,13 +133,13 @@ pub shared_bit : (n x y : ℕ) → x < 2 ^ n → 0 < bit_and x y → (b : ℕ) �
 shared_bit n x y h m =
     let l = and_le_l x y in
     let (b, i, o, z, s) = highest_differs n 0 (bit_and x y) (omega arith) m in
-    let a = bit_and x y b in
+    let a = bit_of_and x y b in
     let p = bit_lt x b in
     let q = bit_lt y b in
     (b, i, omega arith, omega arith)
 
 pub bit_shared : (x y b : ℕ) → bit x b ≡ 1 → bit y b ≡ 1 → 0 < bit_and x y
-bit_shared x y b e f = some_bit (bit_and x y) b (let a = bit_and x y b in omega arith)
+bit_shared x y b e f = some_bit (bit_and x y) b (let a = bit_of_and x y b in omega arith)
 
 -- one bit by itself
 pub bit_one : (b : ℕ) → bit (2 ^ b) b ≡ 1

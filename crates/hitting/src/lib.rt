@@ -1,4 +1,6 @@
 // Sets of bits in a u32, and the search through them for the sets with few bits that meet every clause.
+#![tactic(auto)]
+
 ghost use Rattle.hitting.specs.Theorems.{Theorems};
 
 pub mod candidates;

@@ -1,4 +1,6 @@
 // look [FILE..]: is a program of threads plain; if not, a run that shows it, and the fewest fences.
+#![tactic(auto)]
+
 mod answers;
 mod by_words;
 mod columns;
@@ -12,6 +14,7 @@ use cli::files::{ForSource, ToWords};
 use cli::lines::ForWords;
 use cli::troubles::Trouble;
 use cli::{arguments, files, lines, troubles};
+use std::process::ExitCode;
 
 const HELP: &str = "usage: look [--help | --to-words] [FILE..]
        look --words
@@ -49,6 +52,10 @@ fn run(rt: &HostRuntime) -> Result<(), Trouble> {
     Ok(())
 }
 
-fn main(rt: HostRuntime) -> Result<(), Trouble> {
-    troubles::report(&rt, run(&rt))
+fn main(rt: HostRuntime) -> ExitCode {
+    // what went wrong is said by then, so that `main` says no more of it
+    match troubles::report(&rt, run(&rt)) {
+        Ok(()) => ExitCode::SUCCESS,
+        Err(_said) => ExitCode::FAILURE,
+    }
 }

@@ -1,4 +1,6 @@
 // The store-buffer machine in code: a thread's registers and row of waiting stores, one move, and states as words.
+#![tactic(auto)]
+
 ghost use Rattle.std.specs.Prelude.{◌≡◌, true};
 ghost use Rattle.machine.specs.Words.{WordsAreStates};
 

@@ -11,8 +11,8 @@ use lib.ListN.{length, take}
 use lib.Seq.{take-length}
 use Rattle.model.specs.Code.{nth, put, Thread, Prog}
 use Rattle.model.specs.Machine.{Wait, At, St, Move, next, out, move, moves, starts, begin, all_done, empty}
-use Rattle.model.proofs.Tools.{some_is, none_some, eqb_is, eqb_same, and_both, false_true, nth_below, does_pc, next_of, out_of, rest_of, moves_keep}
-use Rattle.model.proofs.Levels.{stores_in, if_store, did_by, done_by, held, run_adds, run_threads}
+use Rattle.model.proofs.Tools.{some_is, eqb_is, eqb_same, and_both, false_true, nth_below, does_pc, next_of, out_of, rest_of, moves_keep}
+use Rattle.model.proofs.Levels.{stores_in, done_by, held, run_adds, run_threads}
 
 -- what all threads do in all
 abbrev all_by : Prog → ℕ

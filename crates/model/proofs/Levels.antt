@@ -69,7 +69,7 @@ does_adds : (m : List ℕ) (c : Thread) (a b : At) (i : I) → nth c a.pc ≡ so
 does_adds m c a b i f e =
     let pc : did_by c b.pc ≡ did_by c (suc a.pc) = ap (did_by c) (does_pc m a b i e) in
     let more = stores_more c a.pc i f in
-    elim (store_or i) [ inl st ↦ (let one : if_store i ≡ 1 = ap if_store st.2 in let row : length b.waits ≡ length a.waits + 1 = ap (λ (z : At). length z.waits) (sym (some_is (subst (λ (z : I). does m a z ≡ some b) st.2 e))) ∙ length-append a.waits _ in omega arith) | inr q ↦ (let NoneMore : if_store i ≡ 0 = ap (λ z. pick {A = ℕ} z 1 0) q in let row = ap length (does_waits m a b i q e) in omega arith) ]
+    elim (store_or i) [ inl st ↦ (let one : if_store i ≡ 1 = ap if_store st.2 in let row : length b.waits ≡ length a.waits + 1 = ap (λ (z : At). length z.waits) (sym (some_is (subst (λ (z : I). does m a z ≡ some b) st.2 e))) ∙ length-append a.waits _ in omega arith) | inr q ↦ (let none_more : if_store i ≡ 0 = ap (λ z. pick {A = ℕ} z 1 0) q in let row = ap length (does_waits m a b i q e) in omega arith) ]
 
 -- a move adds one to what is done, less what waits
 move_adds : (p : Prog) (s t : St) (m : Move) → move p s m ≡ some t → done_by p t.threads + held s.threads ≡ suc (done_by p s.threads + held t.threads)

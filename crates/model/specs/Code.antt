@@ -1,7 +1,7 @@
 -- Programs of several threads, and programs as words.
 -- One to four threads of at most eight instructions. Each thread has four registers with numbers from 0 to 15;
 -- all threads share eight places of memory. Everything is 0 at first.
-use Rattle.std.specs.Prelude.{◌≡◌, Bool, true, false, ◌&&◌, ◌||◌, not, List, [], ◌∷◌, ◌++◌, ℕ, zero, suc, ◌+◌, ◌*◌, ◌%◌, length, eqb, ltb, leb, T}
+use Rattle.std.specs.Prelude.{◌≡◌, Bool, true, false, ◌&&◌, List, [], ◌∷◌, ◌++◌, ℕ, zero, suc, ◌+◌, length, ltb, leb, T}
 use Rattle.std.proofs.Math.Option.{Option, some, none}
 
 -- the first where the test is true, else the second

@@ -3,7 +3,7 @@
 use Rattle.std.specs.Prelude.{◌≡◌, Bool, true, false, ◌&&◌, ◌||◌, not, List, [], ◌∷◌, ◌++◌, ℕ, eqb}
 use Rattle.std.proofs.Math.Option.{Option, some, none}
 use Rattle.model.specs.Code.{pick, opt, nth, Prog}
-use Rattle.model.specs.Machine.{At, St, Move, next, out, move, begin, empty, all_done, outcome}
+use Rattle.model.specs.Machine.{St, Move, next, out, move, begin, empty, all_done, outcome}
 use Rattle.model.specs.Fences.{Spot}
 
 -- is instruction k of thread n guarded

@@ -1,9 +1,9 @@
 -- Two machines: total store order, in which a store waits in its thread's store buffer before it goes to memory,
 -- and sequential consistency ("at once"), in which each store goes to memory as it is done.
 -- A store buffer is called a row: a thread's stores that wait, the oldest first.
-use Rattle.std.specs.Prelude.{Bool, true, false, ◌&&◌, ◌||◌, not, List, [], ◌∷◌, ◌++◌, ℕ, zero, suc, ◌+◌, ◌%◌, length, replicate, eqb}
+use Rattle.std.specs.Prelude.{Bool, true, false, ◌&&◌, List, [], ◌∷◌, ◌++◌, ℕ, suc, ◌+◌, ◌%◌, length, replicate, eqb}
 use Rattle.std.proofs.Math.Option.{Option, some, none}
-use Rattle.model.specs.Code.{pick, opt, nth, put, I, sets, adds, loads, stores, fence, Thread, Prog}
+use Rattle.model.specs.Code.{pick, opt, nth, put, I, sets, adds, loads, stores, fence, Prog}
 
 -- a store that waits: its place and its number
 pub record Wait : Type 0 where

@@ -3,9 +3,9 @@
 -- order holds all events. It keeps program order, but that a read may come before an older write of its thread if no
 -- fence stands between the two. A read has the number of the newest write to its place, by the memory order, among
 -- those before it in that order and those of its own thread before it in the program; or 0 if there is none.
-use Rattle.std.specs.Prelude.{◌≡◌, ◌⊎◌, Bool, true, false, ◌&&◌, ◌||◌, not, List, [], ◌∷◌, ◌++◌, ℕ, zero, suc, ◌+◌, ◌%◌, ◌<◌, length, replicate, eqb, ltb}
-use Rattle.std.proofs.Math.Option.{Option, some, none}
-use Rattle.model.specs.Code.{pick, opt, nth, put, I, sets, adds, loads, stores, fence, Thread, Prog}
+use Rattle.std.specs.Prelude.{◌≡◌, ◌⊎◌, Bool, true, false, List, [], ◌∷◌, ◌++◌, ℕ, suc, ◌+◌, ◌%◌, ◌<◌, replicate}
+use Rattle.std.proofs.Math.Option.{some}
+use Rattle.model.specs.Code.{pick, opt, nth, put, sets, adds, loads, stores, fence, Thread, Prog}
 
 -- an event: the instruction 'index' of thread 'thread', with the number that it read or wrote
 pub record Ev : Type 0 where

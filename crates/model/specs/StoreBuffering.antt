@@ -2,7 +2,7 @@
 -- Both may read 0 where stores wait.
 use Rattle.std.specs.Prelude.{◌≡◌, true, List, [], ◌∷◌, ℕ, replicate, T}
 use Rattle.std.proofs.Math.Option.{Option, some, none}
-use Rattle.model.specs.Code.{opt, sets, loads, stores, Prog, row, ok}
+use Rattle.model.specs.Code.{sets, loads, stores, Prog, row, ok}
 use Rattle.model.specs.Machine.{St, Move, next, out, moves, begin, all_done, outcome, all_at_once}
 use Rattle.model.specs.Fences.{with_fences}
 

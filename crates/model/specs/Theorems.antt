@@ -1,5 +1,5 @@
 -- What is proved of the definitions, as types: one sentence, one theorem.
-use Rattle.std.specs.Prelude.{◌≡◌, ◌⊎◌, ◌↔◌, true, false, List, [], ◌∷◌, ℕ, ◌+◌, ◌*◌, ◌≤◌, length, T}
+use Rattle.std.specs.Prelude.{◌≡◌, ◌↔◌, true, false, List, [], ◌∷◌, ℕ, ◌*◌, ◌≤◌, length, T}
 use Rattle.std.proofs.Math.Option.{some}
 use Rattle.model.specs.Code.{nth, I, stores, fence, ok, size, Thread, Prog, Reads}
 use Rattle.model.specs.Machine.{St, Move, moves, begin, all_done, outcome, all_at_once, is_store}

@@ -1,9 +1,9 @@
 -- Steps at once keep every row empty. So one from a state in which nothing waits is a next instruction, and what then
 -- waits going out: a store waits exactly if the instruction was one.
-use Rattle.std.proofs.Common.{◌≡◌, ℕ, zero, suc, true, false, ◌⊎◌, List, [], ◌∷◌, ◌++◌, sym, refl, ap, ◌∙◌, subst, inl, inr}
+use Rattle.std.proofs.Common.{◌≡◌, ℕ, zero, suc, false, ◌⊎◌, List, [], ◌∷◌, ◌++◌, sym, refl, ap, ◌∙◌, subst, inl, inr}
 use mathlib.Core.Option.{Option, some, none}
 use Rattle.model.specs.Code.{nth, put, I, stores, Prog}
-use Rattle.model.specs.Machine.{Wait, At, St, next, out, done, does, flushed, move, starts, begin, is_store, at_once}
+use Rattle.model.specs.Machine.{Wait, At, St, next, out, done, does, flushed, move, begin, is_store, at_once}
 use Rattle.model.proofs.Tools.{none_some, some_is, opt_is, nth_put_same, put_put, Next, Out, gone, rest_of, stored, next_of, of_next, of_out, once_of, of_once, store_or, does_waits, starts_fresh}
 
 -- nothing waits

@@ -1,14 +1,14 @@
 -- Joined kept edges are steps at once, between states that are come to at once. So walks along them are runs at once.
-use Rattle.std.proofs.Common.{◌≡◌, ℕ, zero, suc, ◌+◌, ◌-◌, ◌*◌, ◌^◌, ◌<◌, ◌≤◌, ◌⊎◌, ◌↔◌, List, [], ◌∷◌, length, get_or, sym, refl, ap, ◌∙◌, subst, inl, inr, arith}
-use mathlib.Core.Option.{Option, some, none}
+use Rattle.std.proofs.Common.{◌≡◌, ℕ, zero, suc, ◌+◌, ◌-◌, ◌*◌, ◌<◌, ◌≤◌, List, [], ◌∷◌, length, sym, refl, ap, ◌∙◌, subst, inl, inr, arith}
+use mathlib.Core.Option.{some, none}
 use Rattle.model.specs.Code.{Prog}
-use Rattle.model.specs.Machine.{St, Move, next, out, move, begin, at_once, all_at_once}
+use Rattle.model.specs.Machine.{St, Move, next, out, move, at_once, all_at_once}
 use Rattle.model.proofs.Tools.{none_some, some_is, opt_some, opt_is, once_of, nth_below}
 use Rattle.graph.specs.Rules.{kept, Keeps, later, onward, joined, Joins, Ahead}
 use Rattle.graph.specs.Walks.{Walk}
 use Rattle.graph.specs.Search.{Marked, Searched}
 use Rattle.graph.proofs.Asked.{kept_ahead, joined_ahead}
-use Rattle.explore.specs.Found.{moves_of, move_of, state, Edge, Found, Explored}
+use Rattle.explore.specs.Found.{moves_of, move_of, state, Edge, Explored}
 use Rattle.explore.proofs.MoveNumbers.{move_next, move_out}
 use Rattle.once.specs.Once.{MarksOnce}
 use Rattle.once.proofs.Calm.{Calm, calm_begin, Goes_on, once_goes_on, once_stuck}

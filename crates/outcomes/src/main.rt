@@ -1,4 +1,6 @@
 // outcomes [FILE..]: all outcomes of a program of threads, with and without waiting stores.
+#![tactic(auto)]
+
 mod by_words;
 mod listing;
 mod rows;
@@ -10,6 +12,7 @@ use cli::files::{ForSource, ToWords};
 use cli::lines::ForWords;
 use cli::troubles::Trouble;
 use cli::{arguments, files, lines, troubles};
+use std::process::ExitCode;
 
 const HELP: &str = "usage: outcomes [--help | --to-words] [FILE..]
        outcomes --words
@@ -46,6 +49,10 @@ fn run(rt: &HostRuntime) -> Result<(), Trouble> {
     Ok(())
 }
 
-fn main(rt: HostRuntime) -> Result<(), Trouble> {
-    troubles::report(&rt, run(&rt))
+fn main(rt: HostRuntime) -> ExitCode {
+    // what went wrong is said by then, so that `main` says no more of it
+    match troubles::report(&rt, run(&rt)) {
+        Ok(()) => ExitCode::SUCCESS,
+        Err(_said) => ExitCode::FAILURE,
+    }
 }

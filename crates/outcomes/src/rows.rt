@@ -42,6 +42,6 @@ pub fn sorted(
     for words in out.chunks_exact(width(threads)).take(count) {
         rows.push(row_of(words))?;
     }
-    rows.sort();
+    rows.sort_unstable();
     Ok(rows)
 }

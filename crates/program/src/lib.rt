@@ -1,4 +1,6 @@
 // Programs in code: instructions, threads and programs; from words and to words.
+#![tactic(auto)]
+
 pub mod access;
 pub mod instructions;
 pub mod threads;

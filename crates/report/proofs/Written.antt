@@ -1,6 +1,6 @@
 -- Fields written one after another, and the registers of threads as the fields of their words.
 use Rattle.std.proofs.Common.{◌≡◌, ℕ, zero, suc, ◌+◌, ◌*◌, ◌/◌, ◌%◌, ◌<◌, ◌≤◌, List, [], ◌∷◌, ◌++◌, length, get_or, take, drop, set, sym, refl, ap, ◌∙◌, arith}
-use mathlib.Core.Option.{Option, some, none}
+use mathlib.Core.Option.{some}
 use Rattle.std.proofs.lemmas.List.{append_assoc, append-nil, take-set, take_more_set, take_all, drop-drop}
 use Rattle.lent.specs.Nibbles.{nibbles}
 use Rattle.model.specs.Code.{nth}

@@ -1,2 +1,4 @@
 // Outcomes as words.
+#![tactic(auto)]
+
 pub mod outcomes;

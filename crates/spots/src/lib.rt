@@ -1,4 +1,6 @@
 // Lists of spots for fences as the bits of a u32: the spot before instruction k of thread n is the bit 31 - (8n + k).
+#![tactic(auto)]
+
 ghost use Rattle.std.specs.Prelude.{◌≡◌, ◌*◌, ◌<◌, ◌≤◌};
 ghost use Rattle.hitting.specs.Spots.{mask_of};
 ghost use Rattle.program.specs.Meaning.{program};

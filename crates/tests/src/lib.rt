@@ -1,4 +1,6 @@
 // Examples of what the other crates do, as tables, and what it takes to run them.
+#![tactic(auto)]
+
 #[cfg(test)]
 mod at_once;
 #[cfg(test)]

@@ -30,7 +30,7 @@ fn words_of(heap: Global, threads: &[&[[u32; 4]]]) -> Result<Vec<u32>, Fail> {
     Ok(words)
 }
 
-fn check_run(rt: &impl Abort, heap: Global, run: Run<'_>) -> Result<(), Fail> {
+fn check_run(rt: &impl Abort, heap: Global, i: usize, run: Run<'_>) -> Result<(), Fail> {
     let words = words_of(heap, run.threads)?;
     let Some(p) = from_words(words.as_slice()) else {
         return Err(Fail::new("refused"));
@@ -40,14 +40,14 @@ fn check_run(rt: &impl Abort, heap: Global, run: Run<'_>) -> Result<(), Fail> {
     let mut second = [0; 13];
     let state = &mut first[0..width];
     let made = play(&p, run.turns, state, &mut second[0..width]);
-    assert_eq!(rt; made, run.made);
-    assert_eq!(rt; &*state, run.state);
+    assert_eq!(rt; made, run.made, "run {i}");
+    assert_eq!(rt; &*state, run.state, "run {i}");
     Ok(())
 }
 
 pub fn check_runs(rt: &impl Abort, heap: Global, runs: &[Run<'_>]) -> Result<(), Fail> {
     for (i, run) in runs.iter().enumerate() {
-        check_run(rt, heap, *run).note(format_args!("run {i}"))?;
+        check_run(rt, heap, i, *run)?;
     }
     Ok(())
 }

@@ -1,8 +1,8 @@
 -- Worked by hand: what texts say.
-use Rattle.std.proofs.Common.{◌≡◌, ℕ, Bool, true, false, List, [], ◌∷◌, ◌++◌, codes, refl}
-use mathlib.Core.Option.{Option, some, none}
+use Rattle.std.proofs.Common.{◌≡◌, ℕ, List, [], ◌∷◌, ◌++◌, codes, refl}
+use mathlib.Core.Option.{some, none}
 use Rattle.std.specs.Fmt.{digits}
-use Rattle.model.specs.Code.{I, sets, adds, loads, stores, fence, Prog}
+use Rattle.model.specs.Code.{sets, loads, stores}
 use Rattle.text.specs.Grammar.{Listing, reads}
 use Rattle.text.specs.Shows.{shows}
 

@@ -1,13 +1,13 @@
 -- Columns filled row by row: after row r each has its first r instructions.
-use Rattle.std.proofs.Common.{◌≡◌, ℕ, zero, suc, ◌+◌, ◌<◌, ◌≤◌, Bool, true, false, not, ◌&&◌, ◌||◌, ◌⊎◌, List, [], ◌∷◌, ◌++◌, map, length, take, sym, refl, ap, ◌∙◌, subst, inl, inr, ⊎_elim, append_assoc, arith}
+use Rattle.std.proofs.Common.{◌≡◌, ℕ, zero, suc, ◌<◌, ◌≤◌, true, ◌⊎◌, List, [], ◌∷◌, ◌++◌, map, length, take, sym, refl, ap, ◌∙◌, subst, inl, inr, ⊎_elim, append_assoc, arith}
 use mathlib.Core.Option.{Option, some, none}
 use Rattle.std.proofs.lemmas.List.{length_push, length-take-le}
 use Rattle.std.proofs.lemmas.Bool.{and_parts}
-use Rattle.model.specs.Code.{pick, opt, nth, put, I, sets, adds, loads, stores, fence, Thread, ok_i, ok_t}
+use Rattle.model.specs.Code.{opt, nth, put, I, sets, adds, loads, stores, fence, Thread, ok_i, ok_t}
 use Rattle.text.specs.Bytes.{Word, all, tokens}
-use Rattle.text.specs.Grammar.{Places, Column, Page, longer, does, cell, row}
+use Rattle.text.specs.Grammar.{Places, Column, Page, longer, cell, row}
 use Rattle.text.specs.Shows.{show_i, show_cell}
-use Rattle.text.specs.Fine.{seen_i, through_row, through_rows}
+use Rattle.text.specs.Fine.{through_row, through_rows}
 use Rattle.text.proofs.Filling.{cell_is, one_more}
 use Rattle.text.proofs.Lines.{cells, AllTidy}
 use Rattle.text.proofs.Ordering.{Proper, Known, counts, see_more, take_one_more}

@@ -1,7 +1,7 @@
 -- The forms of instructions, told apart by their tokens.
-use Rattle.std.proofs.Common.{◌≡◌, ℕ, zero, suc, Bool, true, false, ◌&&◌, List, [], ◌∷◌, ◌++◌, length, codes, sym, refl, ap, ◌∙◌, subst, arith}
-use mathlib.Core.Option.{Option, some, none}
-use Rattle.model.specs.Code.{pick, opt, I}
+use Rattle.std.proofs.Common.{◌≡◌, Bool, true, false, ◌&&◌, List, [], ◌∷◌, length, codes, refl, ◌∙◌}
+use mathlib.Core.Option.{Option, none}
+use Rattle.model.specs.Code.{I}
 use Rattle.text.specs.Bytes.{Word, same}
 use Rattle.text.specs.Grammar.{Places, sum, load, store, instruction}
 use Rattle.text.proofs.Picks.{pick_true, pick_false}

@@ -1,8 +1,8 @@
 -- The threads' names, and a line without its end and its comment.
-use Rattle.std.proofs.Common.{◌≡◌, ℕ, zero, suc, ◌+◌, ◌-◌, ◌<◌, ◌≤◌, Bool, true, false, not, ◌&&◌, eqb, ltb, List, [], ◌∷◌, ◌++◌, length, get_or, take, sym, refl, ap, ◌∙◌, subst, arith}
+use Rattle.std.proofs.Common.{◌≡◌, ℕ, zero, suc, ◌<◌, ◌≤◌, Bool, true, false, not, List, [], ◌∷◌, length, get_or, take, sym, refl, ap, ◌∙◌, arith}
 use mathlib.Core.Option.{Option, some, none}
 use Rattle.std.proofs.lemmas.Bool.{lt-ltb, le-ltb, and_from, and_left, and_right, not_from_true, not_from_false, eq-eqb, ne_eqb}
-use Rattle.model.specs.Code.{pick, opt}
+use Rattle.model.specs.Code.{opt}
 use Rattle.text.specs.Bytes.{Word, word, has, no_cr, tokens, run, all}
 use Rattle.text.specs.Grammar.{Page, names, name, begin, begins}
 use Rattle.text.proofs.Picks.{pick_true, pick_false, opt_is, opt_none}

@@ -1,12 +1,12 @@
 -- Printed lines: cut into cells again, they say what the cells say.
-use Rattle.std.proofs.Common.{◌≡◌, ℕ, zero, suc, ◌+◌, ◌-◌, ◌<◌, ◌≤◌, Bool, true, false, not, ◌&&◌, ◌||◌, List, [], ◌∷◌, ◌++◌, map, length, replicate, codes, sym, refl, ap, ◌∙◌, subst, append_assoc, arith}
+use Rattle.std.proofs.Common.{◌≡◌, ℕ, suc, ◌-◌, true, false, List, [], ◌∷◌, ◌++◌, map, length, replicate, codes, sym, refl, ap, ◌∙◌, subst, append_assoc}
 use mathlib.Core.Option.{Option, some, none}
-use Rattle.std.proofs.lemmas.Bool.{and_right, and_left, and_parts, cases_Bool}
-use Rattle.model.specs.Code.{pick, opt, nth, put, I}
-use Rattle.text.specs.Bytes.{Word, blank, all, but, plain, cut, pieces, no_cr, before, tokens}
+use Rattle.std.proofs.lemmas.Bool.{and_right}
+use Rattle.model.specs.Code.{opt, nth, put}
+use Rattle.text.specs.Bytes.{Word, blank, all, cut, pieces, tokens}
 use Rattle.text.specs.Grammar.{Places, Column, Page, names, name, does, cell, row, begin, begins, each, content, line}
-use Rattle.text.specs.Shows.{show_i, show_cell, width, spaced, filled, show_line}
-use Rattle.text.proofs.Picks.{pick_true, pick_false, opt_is}
+use Rattle.text.specs.Shows.{show_cell, width, spaced, filled, show_line}
+use Rattle.text.proofs.Picks.{pick_true}
 use Rattle.text.proofs.Scanning.{at, pass_blank}
 use Rattle.text.proofs.Spelling.{trailing}
 use Rattle.text.proofs.Tidy.{tidy, lined, all_append, all_replicate, lined_from, no_bar, line_plain, line_content, pieces_at, pieces_one}

@@ -1,12 +1,12 @@
 -- Words looked up in a list of words.
-use Rattle.std.proofs.Common.{◌≡◌, ℕ, zero, suc, ◌+◌, ◌<◌, ◌≤◌, Bool, true, false, not, ◌&&◌, ◌||◌, eqb, List, [], ◌∷◌, ◌++◌, map, length, get_or, drop, string_bytes, Decides, String, sym, refl, ap, ◌∙◌, subst, add-zero, zero-add, arith, rules}
+use Rattle.std.proofs.Common.{◌≡◌, ℕ, suc, ◌+◌, ◌<◌, ◌≤◌, Bool, true, false, ◌||◌, eqb, List, [], ◌∷◌, map, length, get_or, drop, string_bytes, Decides, String, sym, refl, ap, ◌∙◌, add-zero, zero-add, arith, rules}
 use mathlib.Core.Option.{Option, some, none}
 use lib.Dec.{eqb-suc-zero}
 use Rattle.std.specs.declared.alloc.Global.{Global}
 use Rattle.std.proofs.lemmas.Slice.Eq.{compares_Decides}
 use Rattle.std.proofs.lemmas.List.{at_drop_more, at_drop_all, get_or-map, length-map}
 use Rattle.std.proofs.lemmas.Bool.Decides.{same_from_decides, Decides-like}
-use Rattle.model.specs.Code.{pick, opt}
+use Rattle.model.specs.Code.{opt}
 use Rattle.text.specs.Bytes.{Word, empty, same, index_of, has}
 use Rattle.text.specs.declared.source.Thread.{Thread}
 use Rattle.text.specs.Grammar.{Column, names}

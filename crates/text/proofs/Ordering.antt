@@ -1,16 +1,16 @@
 -- Places numbered in the order in which they first come: a printed place is read as its number.
-use Rattle.std.proofs.Common.{◌≡◌, ℕ, zero, suc, ◌+◌, ◌<◌, ◌≤◌, Bool, true, false, not, ◌&&◌, ◌||◌, T, eqb, ltb, ◌⊎◌, List, [], ◌∷◌, ◌++◌, length, take, decimal, sym, refl, ap, ◌∙◌, subst, inl, inr, ⊎_elim, arith}
+use Rattle.std.proofs.Common.{◌≡◌, ℕ, zero, suc, ◌<◌, ◌≤◌, true, false, not, ◌&&◌, ◌⊎◌, List, [], ◌∷◌, ◌++◌, length, take, decimal, sym, refl, ap, ◌∙◌, subst, inl, inr, ⊎_elim, arith}
 use mathlib.Core.Option.{Option, some, none}
-use Rattle.std.proofs.lemmas.Bool.{and_parts, not-true, lt-ltb, le-ltb, eq-eqb, ne_eqb, eqb-true, cases_lt, cases_eq, or_parts, true≢false}
+use Rattle.std.proofs.lemmas.Bool.{and_parts, not-true, lt-ltb, le-ltb, eq-eqb, ne_eqb, cases_lt, cases_eq, or_parts}
 use Rattle.std.proofs.lemmas.List.{length-take-le}
 use Rattle.std.proofs.lemmas.Bool.Decides.{same_from_decides, Decides-like}
-use Rattle.model.specs.Code.{pick, opt, nth, I, sets, adds, loads, stores, fence}
+use Rattle.model.specs.Code.{opt, nth, I}
 use Rattle.text.specs.Bytes.{Word, digit, all, empty, word, same, index_of, has}
-use Rattle.text.specs.Grammar.{Places, numeral, place, by_numeral, by_word}
+use Rattle.text.specs.Grammar.{Places, place, by_word}
 use Rattle.text.specs.Shows.{show_place}
 use Rattle.text.specs.Fine.{apart, no_numerals, see, seen_i}
 use Rattle.text.proofs.Lookup.{same_decides}
-use Rattle.text.proofs.Picks.{pick_true, pick_false, opt_is, opt_none}
+use Rattle.text.proofs.Picks.{pick_true, pick_false, opt_is}
 use Rattle.text.proofs.PlaceNames.{numeral_is, new}
 use Rattle.text.proofs.Spelling.{number_word, numeral_digits, numeral_read}
 

@@ -1,5 +1,5 @@
 -- Choosing by a test whose answer is known.
-use Rattle.std.proofs.Common.{◌≡◌, Bool, true, false, not, ◌&&◌, ◌||◌, ◌⊎◌, sym, refl, ap, ◌∙◌, subst, inl, inr}
+use Rattle.std.proofs.Common.{◌≡◌, Bool, true, false, ap}
 use mathlib.Core.Option.{Option, some, none}
 use Rattle.model.specs.Code.{pick, opt}
 

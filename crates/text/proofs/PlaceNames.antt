@@ -1,12 +1,11 @@
 -- The cases of a place's name.
-use Rattle.std.proofs.Common.{◌≡◌, ℕ, zero, suc, ◌+◌, ◌<◌, ◌≤◌, Bool, true, false, not, ◌&&◌, ltb, List, [], ◌∷◌, ◌++◌, length, IsUtf8, sym, refl, ap, ◌∙◌, subst, arith}
-use mathlib.Core.Option.{Option, some, none}
+use Rattle.std.proofs.Common.{◌≡◌, ℕ, ◌<◌, ◌≤◌, true, false, not, [], ◌∷◌, ◌++◌, length, IsUtf8, ◌∙◌, arith}
+use mathlib.Core.Option.{some, none}
 use Rattle.std.specs.List.{AllByRecursion}
 use Rattle.std.proofs.ByRecursion.{IsAscii-from_all}
 use Rattle.std.proofs.lemmas.Str.{IsUtf8-from_ascii}
 use Rattle.std.proofs.lemmas.Bool.{lt-ltb, le-ltb, and_parts}
 use Rattle.std.proofs.lemmas.Bool.Decides.{nat_tests}
-use Rattle.model.specs.Code.{pick, opt}
 use Rattle.text.specs.Bytes.{Word, letter, all, empty, word, index_of}
 use Rattle.text.specs.Grammar.{Places, numeral, by_numeral, by_word}
 use Rattle.text.proofs.Picks.{pick_true, pick_false, opt_is, opt_none}

@@ -1,6 +1,6 @@
 -- A line put down column by column.
-use Rattle.std.proofs.Common.{◌≡◌, ℕ, zero, suc, ◌+◌, ◌-◌, ◌<◌, ◌≤◌, max, Bool, true, false, not, ◌&&◌, eqb, List, [], ◌∷◌, ◌++◌, map, length, get_or, drop, replicate, codes, decimal, sym, refl, ap, ◌∙◌, subst, append_assoc, append-nil, add-one, arith}
-use mathlib.Core.Option.{Option, some, none}
+use Rattle.std.proofs.Common.{◌≡◌, ℕ, zero, suc, ◌+◌, ◌-◌, ◌<◌, ◌≤◌, max, Bool, true, false, ◌&&◌, eqb, List, [], ◌∷◌, ◌++◌, length, get_or, drop, replicate, codes, decimal, sym, refl, ap, ◌∙◌, append_assoc, append-nil, add-one, arith}
+use mathlib.Core.Option.{Option}
 use lib.Dec.{eqb-suc-zero}
 use Rattle.std.proofs.lemmas.List.{at_drop_more, at_drop_all, drop_more, length-drop}
 use Rattle.std.proofs.lemmas.Bool.Decides.{nat_tests}
@@ -8,7 +8,7 @@ use Rattle.model.specs.Code.{opt, nth, I, fence, Thread, Prog}
 use Rattle.text.specs.Bytes.{Word, empty}
 use Rattle.text.specs.Grammar.{Column, Listing}
 use Rattle.text.specs.Shows.{show_place, show_i, show_cell, widest, width, spaced, filled, show_line, show_lines, height}
-use Rattle.text.specs.Parts.{gap, behind, part}
+use Rattle.text.specs.Parts.{gap, part}
 use Rattle.text.proofs.Filling.{nth_at, nth_past}
 
 -- what is left of a line at column k, with the blank before it

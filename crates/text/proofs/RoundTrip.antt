@@ -1,22 +1,22 @@
 -- What is printed of a fine listing is read back as that listing.
-use Rattle.std.proofs.Common.{◌≡◌, ℕ, zero, suc, ◌+◌, ◌<◌, ◌≤◌, max, Bool, true, false, not, ◌&&◌, ◌||◌, T, leb, ◌⊎◌, List, [], ◌∷◌, ◌++◌, map, length, take, sym, refl, ap, ◌∙◌, subst, inl, inr, ⊎_elim, append_assoc, append-nil, arith}
+use Rattle.std.proofs.Common.{◌≡◌, ℕ, zero, suc, ◌+◌, ◌<◌, ◌≤◌, Bool, true, false, not, ◌&&◌, T, leb, List, [], ◌∷◌, ◌++◌, map, length, take, sym, refl, ap, ◌∙◌, subst, inl, inr, append_assoc, append-nil, arith}
 use mathlib.Core.Option.{Option, some, none}
 use Rattle.std.proofs.lemmas.List.{length_push, length-map, map_push, take_all}
-use Rattle.std.proofs.lemmas.Bool.{and_parts, and_left, and_from, or_from, leb-true}
+use Rattle.std.proofs.lemmas.Bool.{and_parts, and_left, or_from, leb-true}
 use Rattle.std.proofs.lemmas.Bool.Decides.{nat_tests}
-use Rattle.model.specs.Code.{pick, opt, nth, I, Thread, Prog, ok_t, ok_ts, ok}
-use Rattle.text.specs.Bytes.{Word, letter, blank, all, empty, word, same, has, pieces, tokens}
-use Rattle.text.specs.Grammar.{Column, names, Listing, program, Places, Page, row, begin, begins, each, content, line, blank_page, whole, reads}
+use Rattle.model.specs.Code.{opt, nth, I, Thread, Prog, ok_t, ok_ts, ok}
+use Rattle.text.specs.Bytes.{Word, letter, blank, all, empty, word, same, has, pieces}
+use Rattle.text.specs.Grammar.{Column, names, Listing, program, Places, Page, begins, each, line, blank_page, whole, reads}
 use Rattle.text.specs.Shows.{show_i, show_cell, show_line, show_lines, height, shows}
-use Rattle.text.specs.Fine.{apart, no_numerals, seen_i, through_row, through_rows, Ordered, Named, Fine, RoundTrip, listed, EveryProgram}
-use Rattle.text.proofs.Columns.{opt_some, rows_count_more, row_count_more, cut, Fits, AllFit, nth_mid, Within, within_less, RowRead, row_read}
+use Rattle.text.specs.Fine.{apart, through_row, through_rows, Named, RoundTrip, listed, EveryProgram}
+use Rattle.text.proofs.Columns.{opt_some, rows_count_more, cut, AllFit, nth_mid, Within, within_less, RowRead, row_read}
 use Rattle.text.proofs.Headings.{a_name, begins_is}
 use Rattle.text.proofs.Lines.{cells, AllTidy, row_alike, begins_alike, line_alike, line_lined, line_dark, line_is}
-use Rattle.text.proofs.Ordering.{other, Parts, parts, Proper, Known, counts, nth_some}
-use Rattle.text.proofs.Picks.{pick_true, pick_false, opt_is}
+use Rattle.text.proofs.Ordering.{other, parts, Proper, Known, counts, nth_some}
+use Rattle.text.proofs.Picks.{pick_false, opt_is}
 use Rattle.text.proofs.Sayings.{dark}
 use Rattle.text.proofs.Spelling.{spell_last}
-use Rattle.text.proofs.Tidy.{tidy, word_tidy, no_line_end, pieces_at}
+use Rattle.text.proofs.Tidy.{word_tidy, no_line_end, pieces_at}
 
 T_true : (b : Bool) → T b → b ≡ true
 T_true true t = refl
@@ -92,8 +92,8 @@ module _ (ns : List Word) (proper : Proper ns) (c : Column) (ds : List Column) (
 
   -- a row has something to say in its only column
   row_dark : (r : ℕ) → r < height threads → length ds ≡ 0 → all blank (show_cell ns c (suc r)) ≡ false
-  row_dark r l NoneMore =
-      let short = height_one ds NoneMore in
+  row_dark r l none_more =
+      let short = height_one ds none_more in
       let (i, e) = nth_some c.code r (omega arith) in
       ap (λ (o : Option I). all blank (opt o [] (show_i ns))) e ∙ dark ns i
     where

@@ -1,16 +1,15 @@
 -- A printed instruction is read as that instruction.
-use Rattle.std.proofs.Common.{◌≡◌, ℕ, zero, suc, ◌+◌, ◌<◌, ◌≤◌, Bool, true, false, not, ◌&&◌, ◌||◌, eqb, ltb, ◌⊎◌, List, [], ◌∷◌, ◌++◌, length, codes, decimal, sym, refl, ap, ◌∙◌, subst, append_assoc, append-nil, arith}
-use mathlib.Core.Option.{Option, some, none}
-use Rattle.std.proofs.lemmas.Bool.{and_parts, and_left, and_right, ltb-true}
-use Rattle.model.specs.Code.{pick, opt, I, sets, adds, loads, stores, fence, ok_i}
-use Rattle.text.specs.Bytes.{Word, blank, letter, all, empty, word, same, tokens_on, tokens}
-use Rattle.text.specs.Grammar.{Places, register, number, place, set, sum, load, store, instruction}
+use Rattle.std.proofs.Common.{◌≡◌, ℕ, ◌<◌, ◌≤◌, true, false, not, ◌&&◌, ltb, ◌⊎◌, List, [], ◌∷◌, ◌++◌, length, codes, decimal, sym, refl, ◌∙◌, subst}
+use mathlib.Core.Option.{some, none}
+use Rattle.std.proofs.lemmas.Bool.{and_parts, and_left, ltb-true}
+use Rattle.model.specs.Code.{opt, I, sets, adds, loads, stores, fence, ok_i}
+use Rattle.text.specs.Bytes.{Word, blank, letter, all, empty, word, same, tokens}
+use Rattle.text.specs.Grammar.{Places, register, number, place, instruction}
 use Rattle.text.specs.Shows.{show_register, show_place, show_i}
 use Rattle.text.specs.Fine.{seen_i}
-use Rattle.text.proofs.Forms.{is_sum, is_load, is_store}
+use Rattle.text.proofs.Forms.{is_load, is_store}
 use Rattle.text.proofs.Ordering.{Proper, Known, counts, count, Placed, placed}
-use Rattle.text.proofs.Picks.{pick_true, pick_false, opt_is}
-use Rattle.text.proofs.Scanning.{at}
+use Rattle.text.proofs.Picks.{opt_is}
 use Rattle.text.proofs.Spelling.{spell_word, spell_last, word_no_sign, number_word, number_read, register_word, register_read}
 use Rattle.text.proofs.Tidy.{tidy, all_append, word_tidy}
 

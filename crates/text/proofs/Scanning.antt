@@ -1,9 +1,9 @@
 -- A text cut into tokens, one token after another.
-use Rattle.std.proofs.Common.{◌≡◌, ℕ, zero, suc, ◌+◌, ◌-◌, ◌<◌, ◌≤◌, Bool, true, false, not, ◌&&◌, eqb, leb, List, [], ◌∷◌, ◌++◌, length, get_or, take, drop, sym, refl, ap, ◌∙◌, subst, append_assoc, append-nil, add-zero, arith}
+use Rattle.std.proofs.Common.{◌≡◌, ℕ, zero, suc, ◌+◌, ◌-◌, ◌<◌, ◌≤◌, Bool, true, false, List, [], ◌∷◌, ◌++◌, length, get_or, take, drop, sym, refl, ap, ◌∙◌, subst, append_assoc, append-nil, add-zero, arith}
 use mathlib.Core.Option.{Option, some, none}
 use Rattle.std.proofs.lemmas.List.{drop-drop, drop_more, drop_all, length-drop, get_or-drop}
 use Rattle.std.proofs.lemmas.Bool.Decides.{nat_tests}
-use Rattle.model.specs.Code.{pick, opt}
+use Rattle.model.specs.Code.{opt}
 use Rattle.text.specs.Bytes.{Word, letter, blank, sign, run, Scan, ended, scan, tokens_on, tokens}
 use Rattle.text.specs.Kinds.{FirstToken}
 use Rattle.text.proofs.Picks.{pick_true, pick_false, opt_is, opt_none}

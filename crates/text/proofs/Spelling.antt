@@ -1,16 +1,16 @@
 -- The tokens of what is printed.
-use Rattle.std.proofs.Common.{◌≡◌, ℕ, zero, suc, ◌+◌, ◌-◌, ◌/◌, ◌%◌, ◌^◌, ◌<◌, ◌≤◌, Bool, true, false, not, ◌&&◌, ◌||◌, T, eqb, ltb, List, [], ◌∷◌, ◌++◌, length, replicate, codes, decimal, sym, refl, ap, ◌∙◌, subst, ⊎_elim, append_assoc, append-nil, arith}
+use Rattle.std.proofs.Common.{◌≡◌, ℕ, zero, suc, ◌+◌, ◌-◌, ◌/◌, ◌%◌, ◌<◌, ◌≤◌, true, false, ◌&&◌, eqb, List, [], ◌∷◌, ◌++◌, replicate, decimal, sym, refl, ap, ◌∙◌, ⊎_elim, append_assoc, append-nil, arith}
 use mathlib.Core.Option.{Option, some, none}
 use Rattle.std.proofs.lemmas.Fmt.{decimal_digit, decimal_step}
 use Rattle.std.proofs.lemmas.Bool.{and_parts, and_from, and_left, cases_lt}
 use Rattle.std.proofs.lemmas.Bool.Decides.{nat_tests}
-use Rattle.model.specs.Code.{pick, opt}
-use Rattle.text.specs.Bytes.{Word, within, digit, letter, blank, sign, all, empty, word, same, Scan, ended, scan, tokens_on, tokens}
+use Rattle.model.specs.Code.{opt}
+use Rattle.text.specs.Bytes.{Word, within, digit, letter, sign, all, word, same, Scan, ended, scan, tokens_on}
 use Rattle.text.specs.Grammar.{register, number, numeral}
 use Rattle.text.specs.Shows.{show_register}
-use Rattle.text.proofs.Picks.{pick_true, pick_false}
+use Rattle.text.proofs.Picks.{pick_true}
 use Rattle.text.proofs.Runs.{Stops}
-use Rattle.text.proofs.Scanning.{at, step, scan_letter, pass_blank, end_word}
+use Rattle.text.proofs.Scanning.{at, step, scan_letter, end_word}
 
 letters_on : (ts : List Word) (v w rest : List ℕ) → all letter w ≡ true → tokens_on (at ts v) (w ++ rest) ≡ tokens_on (at ts (v ++ w)) rest
 letters_on ts v [] rest e = ap (λ (u : Word). tokens_on (at ts u) rest) (sym (append-nil v))

@@ -1,13 +1,10 @@
 -- What printed lines are made of, and how they are cut again.
-use Rattle.std.proofs.Common.{◌≡◌, ℕ, zero, suc, ◌+◌, ◌<◌, ◌≤◌, Bool, true, false, not, ◌&&◌, ◌||◌, eqb, List, [], ◌∷◌, ◌++◌, length, take, replicate, codes, sym, refl, ap, ◌∙◌, subst, append_assoc, append-nil, arith}
-use mathlib.Core.Option.{Option, some, none}
+use Rattle.std.proofs.Common.{◌≡◌, ℕ, zero, suc, Bool, true, false, ◌||◌, eqb, List, [], ◌∷◌, ◌++◌, length, take, replicate, refl, ap, ◌∙◌, arith}
 use Rattle.std.proofs.lemmas.List.{take_all}
 use Rattle.std.proofs.lemmas.Bool.{and_parts, and_from, eq-eqb, not-true}
 use Rattle.std.proofs.lemmas.Bool.Decides.{nat_tests}
-use Rattle.model.specs.Code.{pick}
-use Rattle.text.specs.Bytes.{letter, blank, sign, plain, all, but, run, cut, pieces, before, no_cr}
-use Rattle.text.specs.Shows.{spaced}
-use Rattle.text.proofs.Picks.{pick_true, pick_false}
+use Rattle.text.specs.Bytes.{letter, sign, plain, all, but, run, cut, pieces, before, no_cr}
+use Rattle.text.proofs.Picks.{pick_false}
 use Rattle.text.proofs.Runs.{run_on}
 
 -- what cells are made of: letters, blanks and signs

@@ -1,10 +1,10 @@
 -- A text read piece by piece: one turn of a loop that cuts the first piece off.
-use Rattle.std.proofs.Common.{◌≡◌, ℕ, zero, suc, ◌+◌, ◌<◌, ◌≤◌, List, [], ◌∷◌, ◌++◌, length, take, drop, sym, refl, ap, ◌∙◌, subst, ⊎_elim, add-one, arith}
+use Rattle.std.proofs.Common.{◌≡◌, ℕ, suc, ◌+◌, ◌<◌, ◌≤◌, List, [], ◌∷◌, length, take, drop, sym, refl, ap, ◌∙◌, subst, ⊎_elim, add-one}
 use mathlib.Core.Option.{Option, some, none}
 use Rattle.std.proofs.lemmas.List.{take_all}
 use Rattle.std.proofs.lemmas.Bool.{cases_lt}
 use Rattle.model.specs.Code.{opt}
-use Rattle.text.specs.Bytes.{run, but, pieces, before}
+use Rattle.text.specs.Bytes.{run, but, pieces}
 use Rattle.text.specs.Grammar.{Page, cell, row, each}
 use Rattle.text.proofs.Picks.{opt_is, opt_none}
 use Rattle.text.proofs.Runs.{pieces_cut, pieces_last}

@@ -1,7 +1,7 @@
 -- The listings that are read back as they were printed.
-use Rattle.std.specs.Prelude.{◌≡◌, ℕ, zero, suc, ◌≤◌, Bool, true, false, not, ◌&&◌, T, List, [], ◌∷◌, ◌++◌, length, ◌==◌, nat_lt}
+use Rattle.std.specs.Prelude.{◌≡◌, ℕ, zero, suc, ◌≤◌, Bool, true, not, ◌&&◌, T, List, [], ◌∷◌, length, ◌==◌, nat_lt}
 use Rattle.std.proofs.Math.Option.{Option, some, none}
-use Rattle.model.specs.Code.{pick, opt, nth, I, sets, adds, loads, stores, fence, Thread, Prog, ok}
+use Rattle.model.specs.Code.{pick, opt, nth, I, sets, adds, loads, stores, fence, Prog, ok}
 use Rattle.text.specs.Bytes.{Word, digit, all, word, has}
 use Rattle.text.specs.Grammar.{Column, names, Listing, program, reads}
 use Rattle.text.specs.Shows.{height, shows}

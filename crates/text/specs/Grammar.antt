@@ -2,7 +2,7 @@
 -- The first line that is not blank names the threads; each line after it has a cell for each thread, from top to
 -- bottom their instructions. Reading goes line by line, and in a line from left to right, with a page of what has
 -- been read so far.
-use Rattle.std.specs.Prelude.{ℕ, zero, suc, ◌-◌, Bool, true, false, not, ◌&&◌, List, [], ◌∷◌, ◌++◌, map, length, codes, ◌==◌, nat_lt}
+use Rattle.std.specs.Prelude.{ℕ, suc, ◌-◌, Bool, true, false, not, ◌&&◌, List, [], ◌∷◌, ◌++◌, map, length, codes, ◌==◌, nat_lt}
 use Rattle.std.proofs.Math.Option.{Option, some, none}
 use Rattle.model.specs.Code.{pick, opt, nth, put, I, sets, adds, loads, stores, fence, Thread, Prog}
 use Rattle.text.specs.Bytes.{Word, within, digit, blank, plain, all, empty, word, same, index_of, has, pieces, before, no_cr, tokens}

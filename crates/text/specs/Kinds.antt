@@ -1,5 +1,5 @@
 -- What the kinds of bytes mean, and what cutting a token off promises.
-use Rattle.std.specs.Prelude.{◌≡◌, ℕ, ◌<◌, ◌≤◌, Bool, true, false, List, [], ◌∷◌, ◌++◌, length, take, drop, slice_index}
+use Rattle.std.specs.Prelude.{◌≡◌, ℕ, ◌<◌, ◌≤◌, Bool, false, List, [], ◌∷◌, ◌++◌, length, take, drop, slice_index}
 use Rattle.std.proofs.Math.Option.{none}
 use Rattle.text.specs.declared.bytes.Kind.{Kind}
 use Rattle.text.specs.declared.bytes.Kind.TheVariants.{Letter, Digit, Blank, Sign, Plain, But}

@@ -1,5 +1,5 @@
 -- What the values of the code mean, by the grammar's definitions.
-use Rattle.std.specs.Prelude.{ℕ, List, map, Some, None, vec_items, string_bytes, Vec, String}
+use Rattle.std.specs.Prelude.{List, map, Some, None, vec_items, string_bytes, String}
 use Rattle.std.proofs.Math.Option.{Option, some, none}
 use Rattle.std.specs.declared.alloc.Global.{Global}
 use Rattle.std.specs.declared.option.Option as std

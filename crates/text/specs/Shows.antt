@@ -1,7 +1,6 @@
 -- How a program with its names is printed: a line for the names, then a line for each row of cells, lined up in
 -- columns. It says what is printed of any listing; that it is read back is said of fine ones (Fine).
-use Rattle.std.specs.Prelude.{ℕ, zero, suc, ◌-◌, max, Bool, true, false, List, [], ◌∷◌, ◌++◌, length, replicate, codes, decimal}
-use Rattle.std.proofs.Math.Option.{Option, some, none}
+use Rattle.std.specs.Prelude.{ℕ, zero, suc, ◌-◌, max, List, [], ◌∷◌, ◌++◌, length, replicate, codes, decimal}
 use Rattle.model.specs.Code.{opt, nth, I, sets, adds, loads, stores, fence, Thread, Prog}
 use Rattle.text.specs.Bytes.{Word}
 use Rattle.text.specs.Grammar.{Column, Listing, program}

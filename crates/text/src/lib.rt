@@ -2,6 +2,8 @@
 // Reading goes from `reading` (a text) over `pages` (lines, cells and what has been read so far), `cells` (an instruction)
 // and `naming` (places by their names, kept in `places`) down to `tokens` and `bytes`. `faults` says why a text is refused,
 // and `misfits` where a cell goes wrong. `printing` is the way back. What is read and printed is a `source`.
+#![tactic(auto)]
+
 ghost use Rattle.text.specs.Fine.{EveryProgram};
 
 pub mod bytes;

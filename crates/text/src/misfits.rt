@@ -27,16 +27,16 @@ impl Due {
     fn after(self, token: &[u8]) -> Option<Due> {
         let word = Kind::Letter.all(token);
         match self {
-            Due::Start => Due::either(word, Due::Assign, token == b"[", Due::StorePlace),
-            Due::Assign => Due::if_so(token == b"=", Due::Right),
-            Due::Right => Due::either(word, Due::Plus, token == b"[", Due::LoadPlace),
-            Due::Plus => Due::if_so(token == b"+", Due::Second),
+            Due::Start => Due::either(word, Due::Assign, token == b"[".as_slice(), Due::StorePlace),
+            Due::Assign => Due::if_so(token == b"=".as_slice(), Due::Right),
+            Due::Right => Due::either(word, Due::Plus, token == b"[".as_slice(), Due::LoadPlace),
+            Due::Plus => Due::if_so(token == b"+".as_slice(), Due::Second),
             Due::Second => Due::if_so(word, Due::End),
             Due::LoadPlace => Due::if_so(word, Due::LoadClose),
-            Due::LoadClose => Due::if_so(token == b"]", Due::End),
+            Due::LoadClose => Due::if_so(token == b"]".as_slice(), Due::End),
             Due::StorePlace => Due::if_so(word, Due::StoreClose),
-            Due::StoreClose => Due::if_so(token == b"]", Due::StoreAssign),
-            Due::StoreAssign => Due::if_so(token == b"=", Due::StoreRegister),
+            Due::StoreClose => Due::if_so(token == b"]".as_slice(), Due::StoreAssign),
+            Due::StoreAssign => Due::if_so(token == b"=".as_slice(), Due::StoreRegister),
             Due::StoreRegister => Due::if_so(word, Due::End),
             Due::End => None,
         }

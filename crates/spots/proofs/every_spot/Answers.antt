@@ -6,8 +6,8 @@ use Rattle.spots.proofs.Every.{every_is}
 use Rattle.spots.proofs.Adding.{rows_more, rows_small}
 use Rattle.spots.proofs.every_spot.Goals as goal
 
-pub overflow-add-bits : goal.overflow-add-bits
-overflow-add-bits c =
+pub overflow_add-bits : goal.overflow_add-bits
+overflow_add-bits c =
     let p = c.args.p.now in
     let n = c.loop-n.n in
     omega (arith, rows_more p n c.index-p-n.result (omega arith), rows_small p n (omega arith))

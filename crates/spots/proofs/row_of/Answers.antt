@@ -3,8 +3,8 @@ use Rattle.std.proofs.lemmas.Nat.{one_shl}
 use Rattle.spots.proofs.Adding.{mask_row_more, row_small}
 use Rattle.spots.proofs.row_of.Goals as goal
 
-pub overflow-add-bits-in-loop-k : goal.overflow-add-bits-in-loop-k
-overflow-add-bits-in-loop-k c =
+pub overflow_add-bits-in-loop-k : goal.overflow_add-bits-in-loop-k
+overflow_add-bits-in-loop-k c =
     let s = 8 * c.args.n in
     let k = c.loop-k.k in
     omega (arith, one_shl (31 - (s + k)) 32 (omega arith), mask_row_more s k, row_small s (k + 1) (omega arith))

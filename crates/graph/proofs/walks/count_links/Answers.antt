@@ -2,8 +2,8 @@ use Rattle.std.proofs.Common.{◌<◌, length, arith}
 use Rattle.graph.proofs.Tracing.{counted_none, counted_down, counted_room, counted_more, counted_all}
 use Rattle.graph.proofs.walks.count_links.Goals as goal
 
-pub offset-bounds-from-node : goal.offset-bounds-from-node
-offset-bounds-from-node c =
+pub offset_bounds-from-node : goal.offset_bounds-from-node
+offset_bounds-from-node c =
     let h : c.back.node < length c.args.from.now = counted_room c.args.from.now c.args.to c.back.len c.back.node (omega arith) c.back.invariant in
     omega arith
 

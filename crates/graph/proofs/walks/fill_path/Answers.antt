@@ -2,8 +2,8 @@ use Rattle.std.proofs.Common.{arith}
 use Rattle.graph.proofs.Tracing.{filled_some, filled_more, filled_all, traced_leads, traced_may}
 use Rattle.graph.proofs.walks.fill_path.Goals as goal
 
-pub find-move-requires : goal.find-move-requires
-find-move-requires g c =
+pub find_move-requires : goal.find_move-requires
+find_move-requires g c =
     let can = g.R.Rule.can c.args.rule.now in
     let next = g.R.Rule.next c.args.rule.now in
     let traced = c.back.invariant.traced in
@@ -19,8 +19,8 @@ find-move-requires g c =
 pub back-preserved : goal.back-preserved
 back-preserved g c =
     filled_more (g.R.Rule.can c.args.rule.now) (g.R.Rule.next c.args.rule.now) c.args.moves c.args.from.now c.args.to c.args.len
-    c.args.path.now c.back.at _ c.back.node c.back.path c.find-move.result (omega arith)
-    (let l = c.back.invariant.long in omega arith) c.find-move.ensures.below c.find-move.ensures.leads c.back.invariant
+    c.args.path.now c.back.at _ c.back.node c.back.path c.find_move.result (omega arith)
+    (let l = c.back.invariant.long in omega arith) c.find_move.ensures.below c.find_move.ensures.leads c.back.invariant
 
 pub returns : goal.returns
 returns g c =

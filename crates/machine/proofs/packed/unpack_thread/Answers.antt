@@ -21,7 +21,7 @@ invariant-of-result c =
     let n = and_mask c.args.word 16 in
     let b = c.unpack-row.ensures.begin in
     let l = c.unpack-row.ensures.len in
-    (omega arith, (omega arith, (omega arith, tt)))
+    record { few = omega arith; four = omega arith; held = omega arith }
 
 pub returns : goal.returns
 returns c = same_at _ _ _ _ _ _ (and_mask (c.args.word / 65536) 4) (low_registers c.args.word) c.unpack-row.ensures.is

@@ -1,4 +1,4 @@
-use Rattle.std.proofs.Common.{◌+◌, ◌*◌, ◌<◌, ◌≤◌, length, get_or, arith}
+use Rattle.std.proofs.Common.{◌+◌, ◌*◌, get_or, arith}
 use Rattle.program.specs.Meaning.{thread, program}
 use Rattle.program.proofs.WriteWords.{length_program}
 use Rattle.once.proofs.Ended.{done_more, not_done, done_all, code_at, tested_at, at_tested}

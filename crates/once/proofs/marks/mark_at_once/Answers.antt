@@ -1,4 +1,4 @@
-use Rattle.std.proofs.Common.{◌≡◌, ℕ, ◌*◌, ◌≤◌, List, length, sym, subst, arith}
+use Rattle.std.proofs.Common.{ℕ, ◌*◌, sym, subst, arith}
 use Rattle.graph.specs.Rules.{kept, Keeps, joined, Joins, Ahead}
 use Rattle.graph.specs.Search.{Searched}
 use Rattle.program.specs.Meaning.{program}

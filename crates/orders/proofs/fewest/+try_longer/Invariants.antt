@@ -1,5 +1,5 @@
 -- Each call has one spot less to add.
 use Rattle.orders.proofs.fewest.+try_longer.Given as goal
 
-abbrev pub decreases-try-longer : goal.decreases-try-longer
-decreases-try-longer l = l.more
+abbrev pub decreases-try_longer : goal.decreases-try_longer
+decreases-try_longer l = l.more

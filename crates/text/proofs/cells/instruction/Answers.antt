@@ -1,4 +1,4 @@
-use Rattle.std.proofs.Common.{◌≡◌, List, map, length, sym, ap, ◌∙◌, arith}
+use Rattle.std.proofs.Common.{◌≡◌, List, map, length, ap, arith}
 use Rattle.std.proofs.lemmas.List.{length-map}
 use Rattle.text.specs.declared.tokens.Token.{Token}
 use Rattle.text.specs.Grammar.{instruction}
@@ -12,24 +12,24 @@ returns-in-1 c =
     let ts = c.args.tokens.now in
     let one : length ts ≡ 1 = omega arith in
     let e = ap (λ (ts : List Token). instruction (places c.args.named.now) (map token ts)) (of_1 ts _ one) in
-    rw e (c.of-one.ensures (places c.args.named.now))
+    rw e (c.of_one.ensures (places c.args.named.now))
 
 pub returns-in-3 : goal.returns-in-3
 returns-in-3 c =
     let ts = c.args.tokens.now in
     let three : length ts ≡ 3 = omega arith in
     let e = ap (λ (ts : List Token). instruction (places c.args.named.now) (map token ts)) (of_3 ts _ three) in
-    rw e (c.of-three.ensures (places c.args.named.now))
+    rw e (c.of_three.ensures (places c.args.named.now))
 
 pub returns-in-5 : goal.returns-in-5
 returns-in-5 c =
     let ts = c.args.tokens.now in
     let five : length ts ≡ 5 = omega arith in
     let e = ap (λ (ts : List Token). instruction (places c.args.named.now) (map token ts)) (of_5 ts _ five) in
-    rw e c.of-five.ensures
+    rw e c.of_five.ensures
 
-pub returns-in-default : goal.returns-in-default
-returns-in-default c _ =
+pub returns-in_default : goal.returns-in_default
+returns-in_default c _ =
     let ts = c.args.tokens.now in
     let long = length-map ts token in
     other_length (places c.args.named.now) (map token ts) (omega arith) (omega arith) (omega arith)

@@ -1,7 +1,6 @@
-use Rattle.std.proofs.Common.{◌≡◌, ℕ, ◌<◌, ◌≤◌, true, false, [], length, get_or, string_bytes, sym, ap, ◌∙◌, subst, arith}
+use Rattle.std.proofs.Common.{string_bytes, ◌∙◌, arith}
 use Rattle.std.proofs.lemmas.Slice.Eq.{slice_eq-Decides}
 use Rattle.std.proofs.lemmas.List.{length-map}
-use Rattle.text.specs.Bytes.{same}
 use Rattle.text.specs.Meaning.{words}
 use Rattle.text.proofs.Lookup.{looked, upto_none, upto_more, upto_found, upto_all}
 use Rattle.text.proofs.naming.index_of.Goals as goal
@@ -18,7 +17,7 @@ returns-then-eq c =
     let l = c.loop-k-test.true in
     let long = length-map all string_bytes in
     let d = slice_eq-Decides Decides-eqb _ _ _ c.eq.ensures in
-    let e = looked all k c.index-all-k.result c.as-bytes.result.now word c.eq.result l c.index-all-k.is c.as-bytes.ensures.value d in
+    let e = looked all k c.index-all-k.result c.as_bytes.result.now word c.eq.result l c.index-all-k.is c.as_bytes.ensures.value d in
     record { value = upto_found word (words all) k (omega arith) (e ∙ c.if-eq.true) c.loop-k.invariant; within = l }
 
 pub loop-k-preserved : goal.loop-k-preserved
@@ -29,7 +28,7 @@ loop-k-preserved c =
     let l = c.loop-k-test.true in
     let long = length-map all string_bytes in
     let d = slice_eq-Decides Decides-eqb _ _ _ c.eq.ensures in
-    let e = looked all k c.index-all-k.result c.as-bytes.result.now word c.eq.result l c.index-all-k.is c.as-bytes.ensures.value d in
+    let e = looked all k c.index-all-k.result c.as_bytes.result.now word c.eq.result l c.index-all-k.is c.as_bytes.ensures.value d in
     upto_more word (words all) k (omega arith) (e ∙ c.if-eq.false) c.loop-k.invariant
 
 pub returns : goal.returns

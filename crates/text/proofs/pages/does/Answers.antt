@@ -1,47 +1,46 @@
-use Rattle.std.proofs.Common.{◌≡◌, ℕ, ◌<◌, ◌≤◌, List, map, length, vec_items, sym, ap, ◌∙◌, arith}
+use Rattle.std.proofs.Common.{map, length, vec_items, sym, ap, ◌∙◌, arith}
 use mathlib.Core.Option.{some}
 use Rattle.std.proofs.lemmas.List.{length-map, map_push}
 use Rattle.std.proofs.lemmas.Bool.{eqb-true, eqb-false}
 use Rattle.std.proofs.lemmas.Result.{err_from_is_err_and}
 use Rattle.program.specs.Instructions.{instruction}
-use Rattle.text.specs.Grammar.{Column}
 use Rattle.text.specs.Meaning.{token, places, column}
 use Rattle.text.proofs.Filling.{no_tokens, too_many, no_instruction, one_more}
 use Rattle.text.proofs.pages.does.Goals as goal
 
-pub returns-then-is-empty : goal.returns-then-is-empty
-returns-then-is-empty c =
+pub returns-then-is_empty : goal.returns-then-is_empty
+returns-then-is_empty c =
     let ts = c.args.tokens.now in
     let long = length-map ts token in
-    let none = eqb-true (length ts) 0 (sym c.if-is-empty.ensures) in
+    let none = eqb-true (length ts) 0 (sym c.if-is_empty.ensures) in
     no_tokens (places c.args.named.now) (column c.args.thread.now) (map token ts) (omega arith)
 
-pub returns-then-len-ge-MOST-INSTRUCTIONS : goal.returns-then-len-ge-MOST-INSTRUCTIONS
-returns-then-len-ge-MOST-INSTRUCTIONS c _ =
+pub returns-then-len-ge-MOST_INSTRUCTIONS : goal.returns-then-len-ge-MOST_INSTRUCTIONS
+returns-then-len-ge-MOST_INSTRUCTIONS c _ =
     let ts = c.args.tokens.now in
     let long = length-map ts token in
-    let some_token = eqb-false (length ts) 0 (sym c.if-is-empty.ensures) in
+    let some_token = eqb-false (length ts) 0 (sym c.if-is_empty.ensures) in
     let code = c.args.thread.now.code in
     let size = length-map (vec_items code) instruction in
     let fits = code.ok.0 in
     too_many (places c.args.named.now) (column c.args.thread.now) (map token ts) (omega arith) (omega arith)
 
-pub returns-in-err-instruction : goal.returns-in-err-instruction
-returns-in-err-instruction c =
-    let p = err_from_is_err_and c.from-residual.result c.from-residual.ensures.1 in
+pub returns-in_err-instruction : goal.returns-in_err-instruction
+returns-in_err-instruction c =
+    let p = err_from_is_err_and c.from_residual.result c.from_residual.ensures.1 in
     let ts = c.args.tokens.now in
     let long = length-map ts token in
-    let some_token = eqb-false (length ts) 0 (sym c.if-is-empty.ensures) in
-    rw (p.1, p.2) (λ refusal. no_instruction (places c.args.named.now) (column c.args.thread.now) (map token ts) (omega arith) (c.in-err-instruction.ensures refusal))
+    let some_token = eqb-false (length ts) 0 (sym c.if-is_empty.ensures) in
+    rw (p.1, p.2) (λ refusal. no_instruction (places c.args.named.now) (column c.args.thread.now) (map token ts) (omega arith) (c.in_err-instruction.ensures refusal))
 
 pub returns : goal.returns
 returns c =
     let ts = c.args.tokens.now in
     let long = length-map ts token in
-    let some_token = eqb-false (length ts) 0 (sym c.if-is-empty.ensures) in
+    let some_token = eqb-false (length ts) 0 (sym c.if-is_empty.ensures) in
     let code = c.args.thread.now.code in
     let size = length-map (vec_items code) instruction in
     let fits = code.ok.0 in
-    let more = sym (map_push instruction (vec_items code) c.in-ok-instruction.instruction) ∙ ap (map instruction) (sym c.in-ok-push.ensures.items) in
-    one_more (places c.args.named.now) (column c.args.thread.now) (map token ts) (places c.instruction.new.named) (instruction c.in-ok-instruction.instruction) (omega arith) (omega arith) c.in-ok-instruction.ensures
+    let more = sym (map_push instruction (vec_items code) c.in_ok-instruction.instruction) ∙ ap (map instruction) (sym c.in_ok-push.ensures.items) in
+    one_more (places c.args.named.now) (column c.args.thread.now) (map token ts) (places c.instruction.new.named) (instruction c.in_ok-instruction.instruction) (omega arith) (omega arith) c.in_ok-instruction.ensures
     ∙ (λ i. some (places c.instruction.new.named, record { name = (column c.args.thread.now).name; code = more i }))

@@ -1,4 +1,4 @@
-use Rattle.std.proofs.Common.{◌≡◌, ℕ, ◌-◌, length, take, sym, ap, ◌∙◌, arith}
+use Rattle.std.proofs.Common.{◌≡◌, ℕ, ◌-◌, length, take, ap, ◌∙◌, arith}
 use Rattle.text.proofs.Headings.{no_cr_none, no_cr_off, no_cr_on}
 use Rattle.text.proofs.pages.without_cr.Goals as goal
 

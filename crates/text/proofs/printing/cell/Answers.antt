@@ -1,4 +1,4 @@
-use Rattle.std.proofs.Common.{◌≡◌, ℕ, suc, ◌-◌, ◌<◌, length, get_or, vec_items, sym, ap, ◌∙◌, arith}
+use Rattle.std.proofs.Common.{◌≡◌, suc, ◌-◌, ◌<◌, length, vec_items, sym, ap, ◌∙◌, arith}
 use Rattle.std.proofs.lemmas.List.{length-map, get_or-map}
 use Rattle.std.proofs.lemmas.Result.{IfOk-weaker}
 use Rattle.model.specs.Code.{fence}
@@ -17,7 +17,7 @@ returns-then-j-len c =
     let next : j ≡ suc (j - 1) = omega arith in
     let l : j - 1 < length (vec_items code) = omega arith in
     let shown = below_at (words c.args.names.now) (column c.args.thread.now) j (j - 1) (instruction i) next (omega arith) (get_or-map instruction (vec_items code) (j - 1) i fence l ∙ ap instruction (sym c.index.ensures)) in
-    IfOk-weaker c.cell-text.result _ _ (λ s p. p ∙ sym shown) c.cell-text.ensures
+    IfOk-weaker c.cell_text.result _ _ (λ s p. p ∙ sym shown) c.cell_text.ensures
 
 pub returns : goal.returns
 returns c =

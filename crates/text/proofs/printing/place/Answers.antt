@@ -1,4 +1,4 @@
-use Rattle.std.proofs.Common.{◌≡◌, [], length, string_bytes, sym, ap, ◌∙◌, arith}
+use Rattle.std.proofs.Common.{[], string_bytes, sym, ap, ◌∙◌, arith}
 use Rattle.std.proofs.lemmas.List.{length-map, get_or-map}
 use Rattle.std.proofs.lemmas.Result.{IfOk-weaker}
 use Rattle.text.specs.Meaning.{words}
@@ -12,7 +12,7 @@ returns-then-k-names c =
     let s = c.index-names-k.result in
     let long = length-map ns string_bytes in
     let named = place_named (words ns) x (string_bytes s) (omega arith) (get_or-map string_bytes ns x s [] c.if-k-names.true ∙ ap string_bytes (sym c.index-names-k.is)) in
-    IfOk-weaker c.from-str.result _ _ (λ t p. p ∙ c.as-str.ensures.value ∙ sym named) c.from-str.ensures.ok
+    IfOk-weaker c.from_str.result _ _ (λ t p. p ∙ c.as_str.ensures.value ∙ sym named) c.from_str.ensures.ok
 
 pub returns : goal.returns
 returns c =

@@ -1,4 +1,4 @@
-use Rattle.std.proofs.Common.{◌≡◌, ℕ, zero, suc, ◌+◌, ◌<◌, ◌≤◌, Bool, eqb, List, [], ◌∷◌, ◌++◌, map, length, drop, string_bytes, sym, refl, ap, ◌∙◌, append_assoc, append-nil, arith}
+use Rattle.std.proofs.Common.{◌≡◌, ℕ, zero, suc, ◌+◌, eqb, List, [], ◌++◌, map, length, drop, string_bytes, sym, refl, ap, ◌∙◌, append_assoc, append-nil, arith}
 use Rattle.std.proofs.lemmas.List.{length-map, get_or-map, drop_all}
 use Rattle.text.specs.Grammar.{Column}
 use Rattle.text.specs.Meaning.{words, column}
@@ -20,7 +20,7 @@ loop-k-preserved c =
     let put = part ns j k last d in
     let left = lead (k + 1) (show_line ns j (drop (k + 1) cs)) in
     let here = get_or-map column ts k c.index-threads-k.result d c.loop-k-test.true ∙ ap column (sym c.index-threads-k.is) in
-    ap (λ (bs : List ℕ). bs ++ left) c.in-ok-put-part.ensures
+    ap (λ (bs : List ℕ). bs ++ left) c.in_ok-put_part.ensures
     ∙ append_assoc (string_bytes c.loop-k.out) put left
     ∙ ap (λ (bs : List ℕ). string_bytes c.loop-k.out ++ bs) (sym (one_part ns j k cs d last (omega arith) here (ap (eqb (k + 1)) (sym long))))
     ∙ c.loop-k.invariant

@@ -1,4 +1,4 @@
-use Rattle.std.proofs.Common.{◌≡◌, ℕ, suc, ◌+◌, ◌-◌, ◌<◌, ◌≤◌, List, [], ◌∷◌, ◌++◌, map, vec_items, string_bytes, sym, ap, ◌∙◌, append_assoc, append-nil}
+use Rattle.std.proofs.Common.{◌≡◌, ℕ, suc, ◌+◌, ◌-◌, List, [], ◌∷◌, ◌++◌, map, string_bytes, sym, ap, ◌∙◌, append_assoc, append-nil}
 use Rattle.text.specs.Meaning.{words, column, listing}
 use Rattle.text.specs.Shows.{show_line, show_lines}
 use Rattle.text.proofs.Printed.{one_line, no_line}
@@ -11,9 +11,9 @@ loop-j-preserved c =
     let out = string_bytes c.loop-j.out in
     let row = show_line l.places (j + 1) l.columns in
     let rest = show_lines l (suc (j + 1)) (c.args.rows - (j + 1)) in
-    let put : string_bytes c.put-line.new.out ≡ out ++ row =
-    c.in-ok-put-line.ensures ∙ (λ i. out ++ show_line (words (c.as-slice.ensures.value i)) (j + 1) (map column (c.as-slice-in-loop-j.ensures.value i))) in
-    ap (λ (bs : List ℕ). bs ++ rest) (c.in-ok-push-str.ensures.bytes ∙ ap (λ (bs : List ℕ). bs ++ 10 ∷ []) put)
+    let put : string_bytes c.put_line.new.out ≡ out ++ row =
+    c.in_ok-put_line.ensures ∙ (λ i. out ++ show_line (words (c.as_slice.ensures.value i)) (j + 1) (map column (c.as_slice-in-loop-j.ensures.value i))) in
+    ap (λ (bs : List ℕ). bs ++ rest) (c.in_ok-push_str.ensures.bytes ∙ ap (λ (bs : List ℕ). bs ++ 10 ∷ []) put)
     ∙ append_assoc (out ++ row) (10 ∷ []) rest ∙ append_assoc out row (10 ∷ rest)
     ∙ ap (λ (bs : List ℕ). out ++ bs) (sym (one_line l j c.args.rows c.loop-j-test.true))
     ∙ c.loop-j.invariant

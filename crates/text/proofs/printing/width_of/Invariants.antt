@@ -1,4 +1,4 @@
-use Rattle.std.proofs.Common.{◌≡◌, length, drop, vec_items}
+use Rattle.std.proofs.Common.{◌≡◌, drop}
 use Rattle.text.specs.Meaning.{words, column}
 use Rattle.text.specs.Shows.{widest, width}
 use Rattle.text.proofs.printing.width_of.Given as goal

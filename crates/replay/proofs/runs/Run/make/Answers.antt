@@ -1,4 +1,4 @@
-use Rattle.std.proofs.Common.{◌≡◌, ◌+◌, ◌*◌, sym, refl, ◌∙◌, subst}
+use Rattle.std.proofs.Common.{◌+◌, ◌*◌, sym, refl, ◌∙◌, subst}
 use mathlib.Core.Logic.{∥∥₁_map}
 use borrow.Rule.Slice.PartMut.{same_len_mid}
 use Rattle.machine.specs.Post.{Holds}
@@ -23,13 +23,13 @@ returns-then-not-step c =
     let r = c.args.self.now in
     record { program = refl; made = made_false (program r.p) c.args.word (1 + 3 * r.p.count) r.words c.step.new.to c.if-not-step.ensures }
 
-pub invariant-of-self : goal.invariant-of-self
-invariant-of-self c =
+pub invariant_of-self : goal.invariant_of-self
+invariant_of-self c =
     let r = c.args.self.now in
     let n = 1 + 3 * r.p.count in
     let l = c.step.auto.to ∙ part_long r.p.count r.words r.long r.p.few in
     let m = made_true (program r.p) c.args.word n r.words r.words c.step.new.to l c.if-not-step.ensures in
-    (same_len_mid 0 _ r.words c.step.new.to c.step.auto.to ∙ r.long, (∥∥₁_map r.reached (reached_more (program r.p) c.args.word _ _ m), tt))
+    record { long = same_len_mid 0 _ r.words c.step.new.to c.step.auto.to ∙ r.long; reached = ∥∥₁_map r.reached (reached_more (program r.p) c.args.word _ _ m) }
 
 pub returns : goal.returns
 returns c =

@@ -1,4 +1,4 @@
-use Rattle.std.proofs.Common.{◌≡◌, ◌≤◌, length, sym, ◌∙◌, arith}
+use Rattle.std.proofs.Common.{◌≡◌, length, sym, ◌∙◌, arith}
 use Rattle.text.specs.Kinds.{test}
 use Rattle.text.proofs.Runs.{run_more, run_ends, run_over}
 use Rattle.text.proofs.bytes.Kind.run.Goals as goal

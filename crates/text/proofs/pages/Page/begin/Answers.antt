@@ -1,9 +1,9 @@
-use Rattle.std.proofs.Common.{◌≡◌, ℕ, ◌<◌, ◌≤◌, List, [], ◌∷◌, ◌++◌, map, length, get_or, vec_items, string_bytes, sym, ap, ◌∙◌, subst, arith}
-use mathlib.Core.Option.{Option, some, none}
+use Rattle.std.proofs.Common.{◌≡◌, List, [], ◌∷◌, ◌++◌, map, length, get_or, vec_items, string_bytes, sym, ap, ◌∙◌, arith}
+use mathlib.Core.Option.{some}
 use Rattle.std.proofs.lemmas.List.{length-map, map_push}
 use Rattle.program.specs.Instructions.{instruction}
 use Rattle.text.specs.declared.tokens.Token.{Token}
-use Rattle.text.specs.Bytes.{Word, tokens}
+use Rattle.text.specs.Bytes.{Word}
 use Rattle.text.specs.Grammar.{Column, names}
 use Rattle.text.specs.Meaning.{token, column, page}
 use Rattle.text.proofs.Few.{of_1}
@@ -17,51 +17,51 @@ single ts t l e = ap (map token) (of_1 ts t l ∙ ap (λ (u : Token). u ∷ []) 
 
 pub returns-then-len-ne1 : goal.returns-then-len-ne1
 returns-then-len-ne1 c _ =
-    let ts = vec_items c.in-ok-tokens.tokens in
-    let fits = c.in-ok-tokens.tokens.ok.0 in
+    let ts = vec_items c.in_ok-tokens.tokens in
+    let fits = c.in_ok-tokens.tokens.ok.0 in
     let long = length-map ts token in
-    begins_not (page c.args.self.now) c.args.cell.now (map token ts) c.in-ok-tokens.ensures (not_one (names (page c.args.self.now).columns) (map token ts) (omega arith))
+    begins_not (page c.args.self.now) c.args.cell.now (map token ts) c.in_ok-tokens.ensures (not_one (names (page c.args.self.now).columns) (map token ts) (omega arith))
 
-pub returns-then-not-is-word : goal.returns-then-not-is-word
-returns-then-not-is-word c _ =
-    let ts = vec_items c.in-ok-tokens.tokens in
+pub returns-then-not-is_word : goal.returns-then-not-is_word
+returns-then-not-is_word c _ =
+    let ts = vec_items c.in_ok-tokens.tokens in
     let t = c.index-word.result.now in
-    let fits = c.in-ok-tokens.tokens.ok.0 in
-    let seen = c.in-ok-tokens.ensures ∙ ap (λ (ws : List Word). some ws) (single ts t (omega arith) c.index-word.ensures) in
-    begins_not (page c.args.self.now) c.args.cell.now (token t ∷ []) seen (no_word (names (page c.args.self.now).columns) (token t) (sym c.if-not-is-word.ensures))
+    let fits = c.in_ok-tokens.tokens.ok.0 in
+    let seen = c.in_ok-tokens.ensures ∙ ap (λ (ws : List Word). some ws) (single ts t (omega arith) c.index-word.ensures) in
+    begins_not (page c.args.self.now) c.args.cell.now (token t ∷ []) seen (no_word (names (page c.args.self.now).columns) (token t) (sym c.if-not-is_word.ensures))
 
 pub returns-then-has : goal.returns-then-has
 returns-then-has c _ =
-    let ts = vec_items c.in-ok-tokens.tokens in
+    let ts = vec_items c.in_ok-tokens.tokens in
     let t = c.index-word.result.now in
-    let fits = c.in-ok-tokens.tokens.ok.0 in
-    let seen = c.in-ok-tokens.ensures ∙ ap (λ (ws : List Word). some ws) (single ts t (omega arith) c.index-word.ensures) in
+    let fits = c.in_ok-tokens.tokens.ok.0 in
+    let seen = c.in_ok-tokens.ensures ∙ ap (λ (ws : List Word). some ws) (single ts t (omega arith) c.index-word.ensures) in
     begins_not (page c.args.self.now) c.args.cell.now (token t ∷ []) seen (known (names (page c.args.self.now).columns) (token t) (sym c.if-has.ensures))
 
-pub returns-then-len-ge-MOST-THREADS : goal.returns-then-len-ge-MOST-THREADS
-returns-then-len-ge-MOST-THREADS c _ =
-    let ts = vec_items c.in-ok-tokens.tokens in
+pub returns-then-len-ge-MOST_THREADS : goal.returns-then-len-ge-MOST_THREADS
+returns-then-len-ge-MOST_THREADS c _ =
+    let ts = vec_items c.in_ok-tokens.tokens in
     let t = c.index-word.result.now in
-    let fits = c.in-ok-tokens.tokens.ok.0 in
+    let fits = c.in_ok-tokens.tokens.ok.0 in
     let threads = vec_items c.args.self.now.threads in
     let many = c.args.self.now.threads.ok.0 in
     let long = length-map (map column threads) (λ (c : Column). c.name) ∙ length-map threads column in
-    let seen = c.in-ok-tokens.ensures ∙ ap (λ (ws : List Word). some ws) (single ts t (omega arith) c.index-word.ensures) in
+    let seen = c.in_ok-tokens.ensures ∙ ap (λ (ws : List Word). some ws) (single ts t (omega arith) c.index-word.ensures) in
     begins_not (page c.args.self.now) c.args.cell.now (token t ∷ []) seen (fifth (names (map column threads)) (token t) (omega arith))
 
 pub returns : goal.returns
 returns c =
-    let ts = vec_items c.in-ok-tokens.tokens in
+    let ts = vec_items c.in_ok-tokens.tokens in
     let t = c.index-word.result.now in
-    let fits = c.in-ok-tokens.tokens.ok.0 in
+    let fits = c.in_ok-tokens.tokens.ok.0 in
     let threads = vec_items c.args.self.now.threads in
     let many = c.args.self.now.threads.ok.0 in
     let long = length-map (map column threads) (λ (c : Column). c.name) ∙ length-map threads column in
-    let is_IsWord = sym c.if-not-is-word.ensures in
-    let seen = c.in-ok-tokens.ensures ∙ ap (λ (ws : List Word). some ws) (single ts t (omega arith) c.index-word.ensures) in
-    let name : token t ≡ string_bytes c.in-ok-name.name = sym (c.in-ok-name.ensures.ok (word_utf8 (token t) is_IsWord)) in
+    let is_IsWord = sym c.if-not-is_word.ensures in
+    let seen = c.in_ok-tokens.ensures ∙ ap (λ (ws : List Word). some ws) (single ts t (omega arith) c.index-word.ensures) in
+    let name : token t ≡ string_bytes c.in_ok-name.name = sym (c.in_ok-name.ensures.ok (word_utf8 (token t) is_IsWord)) in
     let empty = ap (map instruction) (sym c.new.ensures.items) in
-    let more = sym (map_push column threads _) ∙ ap (map column) (sym c.in-ok-push.ensures.items) in
+    let more = sym (map_push column threads _) ∙ ap (map column) (sym c.in_ok-push.ensures.items) in
     begins_is (page c.args.self.now) c.args.cell.now (token t ∷ []) seen (token t) (a_name (names (map column threads)) (token t) is_IsWord (sym c.if-has.ensures) (omega arith))
     ∙ (λ i. some (record { columns = map column threads ++ record { name = name i; code = empty i } ∷ []; places = (page c.args.self.now).places }))
     ∙ (λ i. some (record { columns = more i; places = (page c.args.self.now).places }))

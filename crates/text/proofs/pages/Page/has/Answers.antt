@@ -1,4 +1,4 @@
-use Rattle.std.proofs.Common.{◌≡◌, ℕ, ◌<◌, ◌≤◌, Bool, List, [], map, length, get_or, vec_items, string_bytes, sym, ap, ◌∙◌, subst, arith}
+use Rattle.std.proofs.Common.{◌≡◌, ℕ, ◌<◌, Bool, List, [], map, length, get_or, vec_items, string_bytes, sym, ap, ◌∙◌, subst, arith}
 use Rattle.std.proofs.lemmas.List.{length-map}
 use Rattle.text.specs.declared.source.Thread.{Thread}
 use Rattle.text.specs.Bytes.{Word, same}
@@ -20,24 +20,24 @@ compared ts us i t w bs r e l is b s =
 pub returns-then-same : goal.returns-then-same
 returns-then-same c =
     let ts = vec_items c.args.self.now.threads in
-    let us = c.as-slice-thread-items.result.now in
+    let us = c.as_slice-thread-items.result.now in
     let long = length_names ts in
-    let size = ap length c.as-slice-thread-items.ensures.value in
-    let e = compared ts us c.loop-thread.thread-index c.thread-item.result c.args.word.now c.as-bytes.result.now c.same.result c.as-slice-thread-items.ensures.value c.loop-thread-test.true c.thread-item.is c.as-bytes.ensures.value c.same.ensures in
+    let size = ap length c.as_slice-thread-items.ensures.value in
+    let e = compared ts us c.loop-thread.thread-index c.thread-item.result c.args.word.now c.as_bytes.result.now c.same.result c.as_slice-thread-items.ensures.value c.loop-thread-test.true c.thread-item.is c.as_bytes.ensures.value c.same.ensures in
     has_found c.args.word.now (names (map column ts)) c.loop-thread.thread-index (omega arith) (e ∙ c.if-same.true) c.loop-thread.invariant
 
 pub loop-thread-preserved : goal.loop-thread-preserved
 loop-thread-preserved c =
     let ts = vec_items c.args.self.now.threads in
-    let us = c.as-slice-thread-items.result.now in
+    let us = c.as_slice-thread-items.result.now in
     let long = length_names ts in
-    let size = ap length c.as-slice-thread-items.ensures.value in
-    let e = compared ts us c.loop-thread.thread-index c.thread-item.result c.args.word.now c.as-bytes.result.now c.same.result c.as-slice-thread-items.ensures.value c.loop-thread-test.true c.thread-item.is c.as-bytes.ensures.value c.same.ensures in
+    let size = ap length c.as_slice-thread-items.ensures.value in
+    let e = compared ts us c.loop-thread.thread-index c.thread-item.result c.args.word.now c.as_bytes.result.now c.same.result c.as_slice-thread-items.ensures.value c.loop-thread-test.true c.thread-item.is c.as_bytes.ensures.value c.same.ensures in
     has_more c.args.word.now (names (map column ts)) c.loop-thread.thread-index (omega arith) (e ∙ c.if-same.false) c.loop-thread.invariant
 
 pub returns : goal.returns
 returns c =
     let ts = vec_items c.args.self.now.threads in
     let long = length_names ts in
-    let size = ap length c.as-slice-thread-items.ensures.value in
+    let size = ap length c.as_slice-thread-items.ensures.value in
     has_all c.args.word.now (names (map column ts)) c.loop-thread.thread-index (omega arith) c.loop-thread.invariant

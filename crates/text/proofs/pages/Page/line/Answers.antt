@@ -1,6 +1,5 @@
-use Rattle.std.proofs.Common.{◌≡◌, ℕ, ◌-◌, ◌≤◌, true, false, List, length, take, sym, ap, ◌∙◌, arith}
-use mathlib.Core.Option.{none}
-use Rattle.text.specs.Bytes.{plain, all, but, run, before, no_cr}
+use Rattle.std.proofs.Common.{◌≡◌, ℕ, ◌-◌, true, List, take, sym, ap, ◌∙◌, arith}
+use Rattle.text.specs.Bytes.{plain, all, before, no_cr}
 use Rattle.text.specs.Grammar.{content, line}
 use Rattle.text.specs.Meaning.{page}
 use Rattle.text.proofs.Headings.{all_of, not_all_of}
@@ -9,13 +8,13 @@ use Rattle.text.proofs.pages.Page.line.Goals as goal
 
 pub returns-then-plain-text : goal.returns-then-plain-text
 returns-then-plain-text c _ =
-    let text = c.without-cr-text.result.now in
-    pick_false _ _ (ap (all plain) (sym c.without-cr-text.ensures) ∙ not_all_of plain text c.run-plain.result c.run-plain.ensures.value (omega arith))
+    let text = c.without_cr-text.result.now in
+    pick_false _ _ (ap (all plain) (sym c.without_cr-text.ensures) ∙ not_all_of plain text c.run-plain.result c.run-plain.ensures.value (omega arith))
 
 pub returns : goal.returns
 returns c =
-    let text = c.without-cr-text.result.now in
-    let is = c.without-cr-text.ensures in
+    let text = c.without_cr-text.result.now in
+    let is = c.without_cr-text.ensures in
     let s = page c.args.self.now in
     let n = c.run.result in
     let width : n - 0 ≡ n = omega arith in

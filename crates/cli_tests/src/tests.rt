@@ -1,0 +1,90 @@
+// Tests of what the programs share: numbers in lines, and what is shown of an outcome.
+use cli::{numbers, shown};
+use std::alloc::Global;
+use std::process::Abort;
+use std::test::Fail;
+use text::{reading, words};
+
+// The line is refused with this message.
+fn refused(rt: &impl Abort, heap: Global, bytes: &[u8], message: &str) -> Result<(), Fail> {
+    match numbers::parse(heap, 3, bytes) {
+        Ok(_) => Err(Fail::new("it is read")),
+        Err(trouble) => {
+            let told = format!(in heap; "{trouble}")?;
+            assert!(rt; told.as_str() == message, "{}", message);
+            Ok(())
+        }
+    }
+}
+
+// The line is read as numbers that are printed as the other.
+fn read(rt: &impl Abort, heap: Global, bytes: &[u8], again: &str) -> Result<(), Fail> {
+    match numbers::parse(heap, 1, bytes) {
+        Ok(words) => {
+            let told = numbers::line(heap, words.as_slice())?;
+            assert!(rt; told.as_str() == again, "{}", again);
+            Ok(())
+        }
+        Err(_) => Err(Fail::new("it is refused")),
+    }
+}
+
+#[test]
+fn reads_numbers(rt: HostRuntime) -> Result<(), Fail> {
+    let heap = rt.alloc();
+    read(&rt, heap, b"", "")?;
+    read(&rt, heap, b"1 0", "1 0")?;
+    read(&rt, heap, b" 007\t4294967295 \r", "7 4294967295")?;
+    refused(
+        &rt,
+        heap,
+        b"1 x",
+        "standard input:3:3: expected a number, found the byte 120",
+    )?;
+    refused(
+        &rt,
+        heap,
+        b"-1",
+        "standard input:3:1: expected a number, found the byte 45",
+    )?;
+    refused(
+        &rt,
+        heap,
+        b"4294967296",
+        "standard input:3:10: expected a number below 4294967296, found a larger one",
+    )
+}
+
+// Registers and places that the program uses, in the order of an outcome's values.
+#[test]
+fn shows_what_is_used(rt: HostRuntime) -> Result<(), Fail> {
+    let heap = rt.alloc();
+    let source = reading::parse(
+        heap,
+        "up | down\nr3 = [b] | [a] = r1\nr0 = 2 | r2 = r3 + r0",
+    )?;
+    let all = shown::of_program(heap, &source)?;
+    let mut told = String::new(heap);
+    for one in all.as_slice() {
+        let title = one.title.as_str();
+        let at = one.at;
+        told.push_str(format!(in heap; "{title} {at};")?.as_str())?;
+    }
+    assert!(rt;
+        told.as_str() == "up.r0 0;up.r3 3;down.r0 4;down.r1 5;down.r2 6;down.r3 7;[b] 8;[a] 9;"
+    );
+    Ok(())
+}
+
+#[test]
+fn tells_words(rt: HostRuntime) -> Result<(), Fail> {
+    let heap = rt.alloc();
+    let source = reading::parse(
+        heap,
+        "up | idle\nr1 = 7\nr1 = r2 + r3\nr1 = [5]\n[5] = r1\nfence",
+    )?;
+    let words = words::to_words(heap, &source)?;
+    let told = numbers::line(heap, words.as_slice())?;
+    assert!(rt; told.as_str() == "2 5 0 1 7 0 1 1 2 3 2 1 5 0 3 5 1 0 4 0 0 0 0");
+    Ok(())
+}
