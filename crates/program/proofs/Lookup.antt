@@ -1,11 +1,11 @@
 -- Looking an instruction up: the n-th of the front of an array, and what is true of every instruction of a thread.
-use Rattle.std.proofs.Common.{◌≡◌, ℕ, zero, suc, ◌<◌, ◌≤◌, ◌&&◌, T, List, [], ◌∷◌, map, length, get_or, take, sym, refl, ap, ◌∙◌, subst, arith}
+use Rattle.std.proofs.Common.{◌≡◌, ℕ, zero, suc, ◌<◌, ◌≤◌, T, List, [], ◌∷◌, map, length, get_or, take, refl, ap, ◌∙◌, subst, arith}
 use mathlib.Core.Option.{Option, some, none}
-use Rattle.model.specs.Code.{opt, nth, I, Thread, Prog, ok_i, ok_t}
+use Rattle.model.specs.Code.{opt, nth, I, Thread, ok_i, ok_t}
 use Rattle.program.specs.declared.instructions.Instruction.{Instruction}
 use Rattle.program.specs.declared.threads.Thread as code
 use Rattle.program.specs.declared.threads.Program.{Program}
-use Rattle.program.specs.Instructions.{instruction, instructions}
+use Rattle.program.specs.Instructions.{instruction}
 use Rattle.program.specs.Meaning.{thread, program}
 use Rattle.program.proofs.Rows.{and_left, and_right}
 use Rattle.program.proofs.ReadProgram.{length_thread}

@@ -1,7 +1,7 @@
 -- Reading a program from the words s: of every program that the words are, the threads from the n-th on are the words
 -- from 'at' on; so where reading a thread stops there is none, and what is read is the one.
-use Rattle.std.proofs.Common.{◌≡◌, ℕ, zero, suc, ◌+◌, ◌-◌, ◌*◌, ◌<◌, ◌≤◌, Bool, true, false, ◌&&◌, T, leb, List, [], ◌∷◌, ◌++◌, map, length, get_or, take, drop, set, sym, refl, ap, ◌∙◌, subst, append_assoc, append-nil, add-one, arith, le→leb, leb→le, length-append}
-use Rattle.std.proofs.lemmas.List.{drop-drop, drop_more, drop_at, drop_all, length-drop, length-map, length-take-le, take_more_set, map_push}
+use Rattle.std.proofs.Common.{◌≡◌, ℕ, zero, suc, ◌+◌, ◌*◌, ◌<◌, ◌≤◌, true, ◌&&◌, T, leb, List, [], ◌∷◌, ◌++◌, map, length, get_or, take, drop, set, sym, refl, ap, ◌∙◌, subst, append_assoc, append-nil, add-one, arith, le→leb, leb→le, length-append}
+use Rattle.std.proofs.lemmas.List.{drop-drop, drop_at, drop_all, length-drop, length-map, length-take-le, take_more_set, map_push}
 use Rattle.model.specs.Code.{I, Prog, ok, ok_t, ok_ts, row, row_t, row_ts, Reads}
 use Rattle.model.specs.Code as model
 use Rattle.program.specs.declared.threads.Thread.{Thread}

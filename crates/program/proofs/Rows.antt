@@ -1,9 +1,9 @@
 -- Rows of words: what stands where in the words of a thread and of a program. A thread's instructions take four words
 -- each, so the k-th stands at 4 * k; that is all that reading needs.
-use Rattle.std.proofs.Common.{◌≡◌, ℕ, zero, suc, ◌+◌, ◌-◌, ◌*◌, ◌<◌, ◌≤◌, Bool, true, false, ◌&&◌, T, List, [], ◌∷◌, ◌++◌, map, length, get_or, take, drop, sym, refl, ap, ◌∙◌, append_assoc, arith, length-append}
-use Rattle.std.proofs.lemmas.List.{drop-drop, drop_more, length-take-le, length-drop}
+use Rattle.std.proofs.Common.{◌≡◌, ℕ, zero, suc, ◌+◌, ◌*◌, ◌<◌, ◌≤◌, Bool, true, false, ◌&&◌, T, List, [], ◌∷◌, ◌++◌, length, get_or, take, drop, sym, refl, ap, ◌∙◌, append_assoc, arith, length-append}
+use Rattle.std.proofs.lemmas.List.{drop-drop, drop_more}
 use Rattle.model.specs.Code.{I, sets, adds, loads, stores, fence, Thread, ok_i, ok_t, row_i, row_t}
-use Rattle.program.specs.Post.{ReadsI, Begins}
+use Rattle.program.specs.Post.{ReadsI}
 
 pub and_both : (a b : Bool) → T a → T b → T (a && b)
 and_both true b h k = k

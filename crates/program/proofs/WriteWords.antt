@@ -1,7 +1,7 @@
 -- Writing words: one more instruction, one more thread, and that a program of the code is within the limits.
-use Rattle.std.proofs.Common.{◌≡◌, ℕ, zero, suc, ◌+◌, ◌<◌, ◌≤◌, true, ◌&&◌, T, leb, List, [], ◌∷◌, ◌++◌, map, length, get_or, take, sym, refl, ap, ◌∙◌, append_assoc, append-nil, arith, le→leb}
+use Rattle.std.proofs.Common.{◌≡◌, ℕ, ◌+◌, ◌<◌, ◌≤◌, ◌&&◌, T, leb, List, [], ◌∷◌, ◌++◌, map, length, get_or, take, sym, ap, ◌∙◌, append_assoc, append-nil, arith, le→leb}
 use Rattle.std.proofs.lemmas.List.{length-map, length-take-le, map_more}
-use Rattle.model.specs.Code.{I, Prog, ok, ok_t, ok_ts, row, row_i, row_t, row_ts, Reads}
+use Rattle.model.specs.Code.{ok, ok_t, ok_ts, row_i, row_t, row_ts}
 use Rattle.program.specs.declared.instructions.Instruction.{Instruction}
 use Rattle.program.specs.declared.threads.Thread.{Thread}
 use Rattle.program.specs.declared.threads.Program.{Program}

@@ -1,5 +1,5 @@
 -- What reading words promises: what is read, and that nothing else could be; or that nothing can be read.
-use Rattle.std.specs.Prelude.{◌≡◌, ℕ, ◌+◌, ◌*◌, ◌<◌, ◌≤◌, T, List, [], ◌∷◌, ◌++◌, length, drop, Some, None, Option}
+use Rattle.std.specs.Prelude.{◌≡◌, ℕ, ◌+◌, ◌*◌, ◌<◌, ◌≤◌, T, List, ◌∷◌, ◌++◌, length, drop, Some, None, Option}
 use Rattle.std.proofs.Math.Option.{some, none}
 use Rattle.model.specs.Code.{opt, nth, I, ok_i, ok_t, row_i, row_t, Prog, Reads}
 use Rattle.model.specs.Code as model

@@ -11,10 +11,10 @@ returns-then-len-gt8 c =
     too_short c.args.words.now c.args.at c.if-at-words.false
     (elim c.then-len-gt8.branch [ then-len-gt8-via-then-len-gt8 w ↦ inl w.if-len-gt8.true | then-len-gt8-via-else-len-gt8+then-words-at w ↦ inr w.if-words-at.true ])
 
-pub returns-in-default : goal.returns-in-default
-returns-in-default c =
+pub returns-in_default : goal.returns-in_default
+returns-in_default c =
     no_instruction c.args.words.now c.args.at c.loop-k.k c.if-at-words.false c.loop-k-test.true (omega arith)
-    c.in-default.ensures
+    c.in_default.ensures
 
 pub loop-k-preserved : goal.loop-k-preserved
 loop-k-preserved c =

@@ -1,4 +1,4 @@
-use Rattle.std.proofs.Common.{◌≡◌, ◌<◌, [], ◌∷◌, ◌++◌, length, vec_items, sym, ap, ◌∙◌, append_assoc, arith}
+use Rattle.std.proofs.Common.{◌≡◌, ◌<◌, [], ◌∷◌, ◌++◌, length, vec_items, sym, ap, ◌∙◌, arith}
 use Rattle.model.specs.Code.{row_ts}
 use Rattle.program.specs.Meaning.{threads, program}
 use Rattle.program.proofs.WriteWords.{thread_added, length_program, program_ok}
@@ -8,7 +8,7 @@ pub loop-n-preserved : goal.loop-n-preserved
 loop-n-preserved c =
     let p = c.args.p.now in
     let h : c.loop-n.n < length p.threads = let e = p.four in let f = p.few in omega arith in
-    thread_added _ _ _ p.threads c.loop-n.n c.index-p-n.result h c.loop-n.invariant c.in-ok-push-thread.ensures
+    thread_added _ _ _ p.threads c.loop-n.n c.index-p-n.result h c.loop-n.invariant c.in_ok-push_thread.ensures
 
 pub returns : goal.returns
 returns c =
@@ -18,7 +18,7 @@ returns c =
       is =
           sym (c.loop-n.invariant
           ∙ ap (λ m. vec_items c.push.new.self ++ row_ts (threads p.threads m)) n
-          ∙ ap (λ a. a ++ row_ts (program p)) (c.in-ok-push.ensures.items ∙ ap (λ a. a ++ (p.count ∷ [])) c.new-words.ensures.items)
+          ∙ ap (λ a. a ++ row_ts (program p)) (c.in_ok-push.ensures.items ∙ ap (λ a. a ++ (p.count ∷ [])) c.new-words.ensures.items)
           ∙ ap (λ m. m ∷ row_ts (program p)) (sym (length_program p)));
       fine = program_ok p;
     }
