@@ -15,7 +15,7 @@ fn rows(heap: Global, waiting: &Outcomes, at_once: &Outcomes) -> Result<Vec<Vec<
         row.extend_from_slice(outcome.as_slice())?;
         rows.push(row)?;
     }
-    rows.sort();
+    rows.sort()?;
     Ok(rows)
 }
 

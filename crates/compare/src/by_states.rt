@@ -87,7 +87,7 @@ fn rows(
     for row in out.chunks_exact(9 + 4 * threads).take(count) {
         rows.push(row.to_vec(heap)?)?;
     }
-    rows.sort();
+    rows.sort()?;
     Ok(rows)
 }
 

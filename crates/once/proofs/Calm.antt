@@ -24,8 +24,8 @@ calm_put (x ∷ as₁) (suc n) b h e zero a q = h 0 a q
 calm_put (x ∷ as₁) (suc n) b h e (suc m) a q = calm_put as₁ n b (λ k. h (suc k)) e m a q
 
 -- after the next instruction of thread n, mid: its store goes out, or nothing can
-abbrev pub Goes_on : Prog → St → ℕ → St → Type 0
-Goes_on p s n mid =
+abbrev pub GoesOn : Prog → St → ℕ → St → Type 0
+GoesOn p s n mid =
     ((u : St) × (move p mid (out n) ≡ some u) × (at_once p s n ≡ some u) × Calm u)
     ⊎ ((move p mid (out n) ≡ none) × (at_once p s n ≡ some mid) × Calm mid)
 
@@ -36,7 +36,7 @@ module _ (p : Prog) (s mid : St) (n : ℕ) (calm : Calm s) (x : Next p s n mid) 
   was_empty : x.was.waits ≡ []
   was_empty = calm n x.was x.stands
 
-  goes_out : (place r : ℕ) → x.i ≡ stores place r → Goes_on p s n mid
+  goes_out : (place r : ℕ) → x.i ≡ stores place r → GoesOn p s n mid
   goes_out place r q =
       let w = stored x.was place r in
       let u = gone mid n w (rest_of x.now []) in
@@ -51,7 +51,7 @@ module _ (p : Prog) (s mid : St) (n : ℕ) (calm : Calm s) (x : Next p s n mid) 
         subst CalmTs same (calm_put s.threads n (rest_of x.now []) calm refl),
       )
 
-  goes_not : is_store x.i ≡ false → Goes_on p s n mid
+  goes_not : is_store x.i ≡ false → GoesOn p s n mid
   goes_not q =
       let row : x.now.waits ≡ [] = does_waits s.mem x.was x.now x.i q x.did ∙ was_empty in
       inr (
@@ -60,10 +60,10 @@ module _ (p : Prog) (s mid : St) (n : ℕ) (calm : Calm s) (x : Next p s n mid) 
         subst Calm (sym x.gives) (calm_put s.threads n x.now calm row),
       )
 
-  goes_on : Goes_on p s n mid
+  goes_on : GoesOn p s n mid
   goes_on = elim (store_or x.i) [ inl st ↦ goes_out st.0 st.1 st.2 | inr q ↦ goes_not q ]
 
-pub once_goes_on : (p : Prog) (s mid : St) (n : ℕ) → Calm s → move p s (next n) ≡ some mid → Goes_on p s n mid
+pub once_goes_on : (p : Prog) (s mid : St) (n : ℕ) → Calm s → move p s (next n) ≡ some mid → GoesOn p s n mid
 once_goes_on p s mid n calm e = goes_on p s mid n calm (next_of p s n mid e)
 
 -- where there is no next instruction to do, there is no step at once

@@ -11,7 +11,7 @@ use Rattle.graph.proofs.Asked.{kept_ahead, joined_ahead}
 use Rattle.explore.specs.Found.{moves_of, move_of, state, Edge, Explored}
 use Rattle.explore.proofs.MoveNumbers.{move_next, move_out}
 use Rattle.once.specs.Once.{MarksOnce}
-use Rattle.once.proofs.Calm.{Calm, calm_begin, Goes_on, once_goes_on, once_stuck}
+use Rattle.once.proofs.Calm.{Calm, calm_begin, GoesOn, once_goes_on, once_stuck}
 
 -- the edges of all moves lead ahead, and joined ones too
 pub once_ahead : (p : Prog) (q g : List ℕ) (n : ℕ) → Explored p q g n → n * moves_of (length p) ≤ length g → length p ≤ 4 → Ahead (Joins (Keeps g (moves_of (length p))) (kept g (moves_of (length p))) (length p)) (joined (kept g (moves_of (length p))) (length p)) (length p) n
@@ -53,7 +53,7 @@ module _ (p : Prog) (q g : List ℕ) (n : ℕ) (x : Explored p q g n) where
   ByOnce i m zero = at_once p (st i) m ≡ none
   ByOnce i m (suc j) = (j < n) × (at_once p (st i) m ≡ some (st j)) × Calm (st j)
 
-  step_on : (i m j k : ℕ) → j < n → Goes_on p (st i) m (st j) → By j (out m) k → ByOnce i m (later (suc j) k)
+  step_on : (i m j k : ℕ) → j < n → GoesOn p (st i) m (st j) → By j (out m) k → ByOnce i m (later (suc j) k)
   step_on i m j zero h (inl g) b = absurd (none_some (sym b ∙ g.1))
   step_on i m j zero h (inr g) b = (h, g.1, g.2)
   step_on i m j (suc k) h (inl g) b =

@@ -18,17 +18,17 @@ start-shape-requires c =
 pub states-init : goal.states-init
 states-init c = (c.start-shape.ensures c.args.edges.now c.args.from.now, omega arith, omega arith)
 
-pub make-room-shape-requires : goal.make-room-shape-requires
-make-room-shape-requires c =
+pub make_room-shape-requires : goal.make_room-shape-requires
+make_room-shape-requires c =
     let b = c.states.invariant.0 in
-    let (h, r, probed) = levelled (program c.args.p.now) c.states.shape c.args.limit c.states.queue c.states.table c.states.edges c.states.from c.states.since c.states.n c.states.i c.level-end-since.result b c.states-test.true c.level-end-since.ensures in
+    let (h, r, probed) = levelled (program c.args.p.now) c.states.shape c.args.limit c.states.queue c.states.table c.states.edges c.states.from c.states.since c.states.n c.states.i c.level_end-since.result b c.states-test.true c.level_end-since.ensures in
     record { probed = probed; few = b.few; told = c.requires.told; fits = b.fits }
 
 pub expand-requires : goal.expand-requires
 expand-requires c =
     let p = program c.args.p.now in
     let b = c.states.invariant.0 in
-    let r = c.make-room-shape.ensures in
+    let r = c.make_room-shape.ensures in
     let i = c.states.i in
     let h = c.states-test.true in
     let kq = c.states.auto.queue in
@@ -36,39 +36,39 @@ expand-requires c =
     let kk = c.states.auto.key in
     let kf = c.states.auto.from in
     let in_from = c.requires.in_from in
-    let (hr, ranks, probed) = levelled p c.states.shape c.args.limit c.states.queue c.states.table c.states.edges c.states.from c.states.since c.states.n i c.level-end-since.result b h c.level-end-since.ensures in
-    let w : c.make-room-shape.result.width ≡ width (length p) = r.width ∙ b.wide in
+    let (hr, ranks, probed) = levelled p c.states.shape c.args.limit c.states.queue c.states.table c.states.edges c.states.from c.states.since c.states.n i c.level_end-since.result b h c.level_end-since.ensures in
+    let w : c.make_room-shape.result.width ≡ width (length p) = r.width ∙ b.wide in
     let e1 = words_within i c.states.n c.args.limit (width (length p)) (length c.args.queue.now) h b.few c.requires.ends in
-    let e2 = words_within i c.states.n c.args.limit (moves_of (length p)) (length c.args.edges.now) h b.few c.requires.edges-end in
+    let e2 = words_within i c.states.n c.args.limit (moves_of (length p)) (length c.args.edges.now) h b.few c.requires.edges_end in
     let wi = c.states.invariant.1 in
     let fi = c.states.invariant.2 in
     let key = c.requires.key in
     let q0 : length c.states.queue ≡ length c.args.queue.now = (let a = c.start-shape.auto.queue in omega arith) in
     record {
-      going = turn p c.states.shape c.make-room-shape.result c.args.limit c.states.queue c.states.table c.make-room-shape.new.table c.states.edges c.states.from c.states.since c.level-end-since.result c.states.n i b hr ranks r.width r.probed;
+      going = turn p c.states.shape c.make_room-shape.result c.args.limit c.states.queue c.states.table c.make_room-shape.new.table c.states.edges c.states.from c.states.since c.level_end-since.result c.states.n i b hr ranks r.width r.probed;
       key = omega arith;
       room = r.room;
       told = c.requires.told;
       starts = wi ∙ ap (λ (z : ℕ). i * z) (sym w);
       words = omega arith;
       stands = fi;
-      edges-end = omega arith;
+      edges_end = omega arith;
       in_from = omega arith;
       ends = subst (λ (z : ℕ). c.args.limit * z ≤ length c.states.queue) (sym w) (subst (λ (z : ℕ). c.args.limit * width (length p) ≤ z) (sym q0) c.requires.ends);
     }
 
-pub overflow-add-words : goal.overflow-add-words
-overflow-add-words c =
+pub overflow_add-words : goal.overflow_add-words
+overflow_add-words c =
     let p = program c.args.p.now in
     let b = c.states.invariant.0 in
-    let r = c.make-room-shape.ensures in
-    let w : c.make-room-shape.result.width ≡ width (length p) = r.width ∙ b.wide in
+    let r = c.make_room-shape.ensures in
+    let w : c.make_room-shape.result.width ≡ width (length p) = r.width ∙ b.wide in
     let e1 = words_within c.states.i c.states.n c.args.limit (width (length p)) (length c.args.queue.now) c.states-test.true b.few c.requires.ends in
     let wi = c.states.invariant.1 in
     omega arith
 
-pub overflow-add-first : goal.overflow-add-first
-overflow-add-first c =
+pub overflow_add-first : goal.overflow_add-first
+overflow_add-first c =
     let p = program c.args.p.now in
     let l = length_program c.args.p.now in
     let b = c.states.invariant.0 in
@@ -84,14 +84,14 @@ pub states-preserved : goal.states-preserved
 states-preserved c =
     let p = program c.args.p.now in
     let b = c.states.invariant.0 in
-    let r = c.make-room-shape.ensures in
-    let w : c.make-room-shape.result.width ≡ width (length p) = r.width ∙ b.wide in
+    let r = c.make_room-shape.ensures in
+    let w : c.make_room-shape.result.width ≡ width (length p) = r.width ∙ b.wide in
     let wi = c.states.invariant.1 in
     let fi = c.states.invariant.2 in
     let l = length_program c.args.p.now in
     let kt = c.expand.auto.table in
     let f = r.fits in (
-      turned p c.make-room-shape.result c.args.limit c.expand.new.queue c.expand.new.table c.expand.new.edges c.expand.new.from c.level-end-since.result c.in-Some.states c.states.i c.in-Some.ensures (omega arith),
+      turned p c.make_room-shape.result c.args.limit c.expand.new.queue c.expand.new.table c.expand.new.edges c.expand.new.from c.level_end-since.result c.in-Some.states c.states.i c.in-Some.ensures (omega arith),
       (let m = more_words c.states.i (width (length p)) in omega arith),
       (let m = more_words c.states.i (moves_of (length p)) in omega arith),
     )

@@ -6,8 +6,8 @@ use Rattle.fences.specs.Rows.{done_at}
 use Rattle.fences.proofs.LookLaws.{done_before}
 use Rattle.fences.proofs.found.first_done.Goals as goal
 
-pub returns-then-not-is-done : goal.returns-then-not-is-done
-returns-then-not-is-done c =
+pub returns-then-not-is_done : goal.returns-then-not-is_done
+returns-then-not-is_done c =
     let p = program c.args.p.now in
     let q = c.args.queue.now in
     let (g, x) = c.requires.explored in
@@ -19,7 +19,7 @@ returns-then-not-is-done c =
     record {
       few = few;
       done = i.1;
-      before = λ j l d. let y : j ≤ last = omega arith in false_true (c.if-not-is-done.ensures ∙ done_before p q g c.args.n last j x h y d);
+      before = λ j l d. let y : j ≤ last = omega arith in false_true (c.if-not-is_done.ensures ∙ done_before p q g c.args.n last j x h y d);
     }
 
 pub down-preserved : goal.down-preserved
@@ -32,7 +32,7 @@ down-preserved c =
       (let few = i.0 in omega arith),
       λ j a l.
           elim (cases_eq j last) [
-            | inl e ↦ ap (done_at p q) e ∙ sym c.if-not-is-done.ensures
+            | inl e ↦ ap (done_at p q) e ∙ sym c.if-not-is_done.ensures
             | inr ne ↦ i.1 j (omega arith) l
           ],
     )

@@ -6,51 +6,51 @@ use Rattle.fences.proofs.RowLaws.{rows_count}
 use Rattle.fences.proofs.Listed.{all_states, rows_fit, rows_too_long}
 use Rattle.fences.proofs.listing.list_found.Goals as goal
 
-pub mark-at-once-requires : goal.mark-at-once-requires
-mark-at-once-requires c =
-    let f = c.split-at-mut-cost.ensures.front-len in
-    let b = c.split-at-mut-cost.ensures.back_len in
+pub mark_at_once-requires : goal.mark_at_once-requires
+mark_at_once-requires c =
+    let f = c.split_at_mut-cost.ensures.front_len in
+    let b = c.split_at_mut-cost.ensures.back_len in
     let r = c.requires.room in
     record { explored = (c.args.queue.now, c.requires.explored); held = c.requires.kept; in_cost = omega arith; in_from = omega arith }
 
-pub first-done-first-requires : goal.first-done-first-requires
-first-done-first-requires c = record { explored = (c.args.edges.now, c.requires.explored); held = c.requires.held }
+pub first_done-first-requires : goal.first_done-first-requires
+first_done-first-requires c = record { explored = (c.args.edges.now, c.requires.explored); held = c.requires.held }
 
 pub returns-then-count-out : goal.returns-then-count-out
 returns-then-count-out c =
     let p = c.args.p.now in
     let q = c.args.queue.now in
-    let cost = c.mark-at-once.new.cost in (
+    let cost = c.mark_at_once.new.cost in (
       rows_from (program p) q cost 0 c.args.n,
-      lists (program p) q c.args.edges.now cost c.args.n c.requires.explored (c.mark-at-once.ensures.marks q c.requires.explored),
-      rows_too_long p q c.args.edges.now cost c.args.n (c.args.n - c.first-done-first.result) (length c.args.out.now) c.requires.explored (rows_count (program p) q cost c.args.n c.first-done-first.result c.first-done-first.ensures) c.if-count-out.true,
+      lists (program p) q c.args.edges.now cost c.args.n c.requires.explored (c.mark_at_once.ensures.marks q c.requires.explored),
+      rows_too_long p q c.args.edges.now cost c.args.n (c.args.n - c.first_done-first.result) (length c.args.out.now) c.requires.explored (rows_count (program p) q cost c.args.n c.first_done-first.result c.first_done-first.ensures) c.if-count-out.true,
       refl,
     )
 
-pub write-rows-requires : goal.write-rows-requires
-write-rows-requires c =
+pub write_rows-requires : goal.write_rows-requires
+write_rows-requires c =
     let p = c.args.p.now in
     let q = c.args.queue.now in
-    let cost = c.mark-at-once.new.cost in
-    let f = c.split-at-mut-cost.ensures.front-len in
-    let k = c.mark-at-once.auto.cost in
+    let cost = c.mark_at_once.new.cost in
+    let f = c.split_at_mut-cost.ensures.front_len in
+    let k = c.mark_at_once.auto.cost in
     record {
       explored = (c.args.edges.now, c.requires.explored);
       held = c.requires.held;
       marked = omega arith;
-      done = c.first-done-first.ensures;
-      room = rows_fit p q c.args.edges.now cost c.args.n (c.args.n - c.first-done-first.result) (length c.args.out.now) c.requires.explored (rows_count (program p) q cost c.args.n c.first-done-first.result c.first-done-first.ensures) c.if-count-out.false;
+      done = c.first_done-first.ensures;
+      room = rows_fit p q c.args.edges.now cost c.args.n (c.args.n - c.first_done-first.result) (length c.args.out.now) c.requires.explored (rows_count (program p) q cost c.args.n c.first_done-first.result c.first_done-first.ensures) c.if-count-out.false;
     }
 
 pub returns : goal.returns
 returns c =
     let p = c.args.p.now in
     let q = c.args.queue.now in
-    let cost = c.mark-at-once.new.cost in (
+    let cost = c.mark_at_once.new.cost in (
       rows_from (program p) q cost 0 c.args.n,
-      lists (program p) q c.args.edges.now cost c.args.n c.requires.explored (c.mark-at-once.ensures.marks q c.requires.explored),
+      lists (program p) q c.args.edges.now cost c.args.n c.requires.explored (c.mark_at_once.ensures.marks q c.requires.explored),
       all_states (program p) q c.args.edges.now c.args.n c.requires.explored,
-      rows_count (program p) q cost c.args.n c.first-done-first.result c.first-done-first.ensures,
-      c.write-rows.ensures.written,
-      c.write-rows.ensures.behind,
+      rows_count (program p) q cost c.args.n c.first_done-first.result c.first_done-first.ensures,
+      c.write_rows.ensures.written,
+      c.write_rows.ensures.behind,
     )

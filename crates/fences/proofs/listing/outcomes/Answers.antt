@@ -6,8 +6,8 @@ use Rattle.fences.proofs.listing.outcomes.Goals as goal
 pub returns-then-work-most : goal.returns-then-work-most
 returns-then-work-most c = few_post c.args.words.now c.args.most (length c.args.work.now) c.args.out.now c.if-work-most.true
 
-pub returns-in-default : goal.returns-in-default
-returns-in-default c = no_program_post c.args.words.now c.args.most (length c.args.work.now) c.args.out.now c.in-default.ensures c.if-work-most.false
+pub returns-in_default : goal.returns-in_default
+returns-in_default c = no_program_post c.args.words.now c.args.most (length c.args.work.now) c.args.out.now c.in_default.ensures c.if-work-most.false
 
 pub returns : goal.returns
 returns c =

@@ -22,8 +22,8 @@ returns-then-not-finished c =
     let packs = record_packs p q g _ c.args.n c.args.i ex c.requires.below c.record-state.ensures in
     wrote_none (program p) q c.args.cost.now c.args.out.now c.args.i c.args.at (sym (c.if-not-finished.ensures (state (length (program p)) q c.args.i) packs))
 
-pub write-outcome-requires : goal.write-outcome-requires
-write-outcome-requires c =
+pub write_outcome-requires : goal.write_outcome-requires
+write_outcome-requires c =
     let p = c.args.p.now in
     let q = c.args.queue.now in
     let (g, ex) = c.requires.explored in
@@ -50,4 +50,4 @@ returns c =
       | then-cost-i-gt0 w ↦ w.once-is ∙ sym (ap (λ (b : Bool). pick {A = ℕ} b 1 0) (lt-ltb 0 _ w.if-cost-i-gt0.true))
       | else-cost-i-gt0 w ↦ w.once-is ∙ sym (ap (λ (b : Bool). pick {A = ℕ} b 1 0) (le-ltb 0 _ w.if-cost-i-gt0.false))
     ] in
-    wrote_one (program p) q c.args.cost.now c.args.out.now c.write-outcome.new.out c.args.i c.args.at (c.args.at + (9 + 4 * p.count)) c.if-cost-i-gt0.once d once (omega arith) (c.write-outcome.ensures.written st packs) c.write-outcome.ensures.behind
+    wrote_one (program p) q c.args.cost.now c.args.out.now c.write_outcome.new.out c.args.i c.args.at (c.args.at + (9 + 4 * p.count)) c.if-cost-i-gt0.once d once (omega arith) (c.write_outcome.ensures.written st packs) c.write_outcome.ensures.behind

@@ -5,8 +5,8 @@ use Rattle.fences.specs.Rows.{one_row, rows_from}
 use Rattle.fences.proofs.RowLaws.{rows_skip, text_step, wrote_more, behind_more}
 use Rattle.fences.proofs.listing.write_rows.Goals as goal
 
-pub write-row-at-requires : goal.write-row-at-requires
-write-row-at-requires c =
+pub write_row-at-requires : goal.write_row-at-requires
+write_row-at-requires c =
     let p = program c.args.p.now in
     let q = c.args.queue.now in
     let cost = c.args.cost.now in
@@ -32,11 +32,11 @@ loop-i-preserved c =
     let i = c.loop-i.i in
     let n = c.args.n in
     let h = c.loop-i-test.true in
-    let w = c.write-row-at.ensures in
+    let w = c.write_row-at.ensures in
     let e = ap length (text_step p q cost i n h) ∙ length-append (text (one_row p q cost i)) (text (rows_from p q cost (i + 1) (n - (i + 1)))) in
     let l = c.loop-i.invariant.1 in
     let long = w.long in (
-      wrote_more p q cost c.args.out.now c.loop-i.out c.write-row-at.new.out i n c.loop-i.at c.write-row-at.result h c.loop-i.invariant.0 w,
+      wrote_more p q cost c.args.out.now c.loop-i.out c.write_row-at.new.out i n c.loop-i.at c.write_row-at.result h c.loop-i.invariant.0 w,
       omega arith,
-      behind_more c.args.out.now c.loop-i.out c.write-row-at.new.out (text (one_row p q cost i)) c.loop-i.at c.write-row-at.result (length (text (rows_from p q cost 0 n))) w (omega arith) c.loop-i.invariant.2,
+      behind_more c.args.out.now c.loop-i.out c.write_row-at.new.out (text (one_row p q cost i)) c.loop-i.at c.write_row-at.result (length (text (rows_from p q cost 0 n))) w (omega arith) c.loop-i.invariant.2,
     )

@@ -6,9 +6,9 @@ use Rattle.fences.proofs.looking.look.Goals as goal
 pub returns-then-work-most : goal.returns-then-work-most
 returns-then-work-most c = few_post c.args.words.now c.args.most (length c.args.work.now) c.args.out.now c.if-work-most.true
 
-pub returns-in-default : goal.returns-in-default
-returns-in-default c = no_program_post c.args.words.now c.args.most (length c.args.work.now) c.args.out.now c.in-default.ensures c.if-work-most.false
+pub returns-in_default : goal.returns-in_default
+returns-in_default c = no_program_post c.args.words.now c.args.most (length c.args.work.now) c.args.out.now c.in_default.ensures c.if-work-most.false
 
 pub returns : goal.returns
 returns c =
-    looked_post c.args.words.now c.args.most (length c.args.work.now) c.args.out.now c.look-in.new.out (program c.in-Some.p) c.look-in.result c.in-Some.ensures (omega arith) c.if-work-most.false c.look-in.ensures
+    looked_post c.args.words.now c.args.most (length c.args.work.now) c.args.out.now c.look_in.new.out (program c.in-Some.p) c.look_in.result c.in-Some.ensures (omega arith) c.if-work-most.false c.look_in.ensures

@@ -9,46 +9,46 @@ use Rattle.fences.proofs.looking.look_in.Goals as goal
 pub explore-requires : goal.explore-requires
 explore-requires c =
     let p = c.args.p.now in
-    let limit = c.states-that-fit-limit.result in
-    let f = c.states-that-fit-limit.ensures in
+    let limit = c.states_that_fit-limit.result in
+    let f = c.states_that_fit-limit.ensures in
     let fits = f.fits in
     let l = length_program p in
-    let k1 = c.split-at-mut-key.ensures.front-len in
-    let k2 = c.split-at-mut-key.ensures.back_len in
-    let q1 = c.split-at-mut-queue.ensures.front-len in
-    let q2 = c.split-at-mut-queue.ensures.back_len in
-    let e1 = c.split-at-mut-edges.ensures.front-len in
-    let e2 = c.split-at-mut-edges.ensures.back_len in
-    let f1 = c.split-at-mut-from.ensures.front-len in
-    let f2 = c.split-at-mut-from.ensures.back_len in
+    let k1 = c.split_at_mut-key.ensures.front_len in
+    let k2 = c.split_at_mut-key.ensures.back_len in
+    let q1 = c.split_at_mut-queue.ensures.front_len in
+    let q2 = c.split_at_mut-queue.ensures.back_len in
+    let e1 = c.split_at_mut-edges.ensures.front_len in
+    let e2 = c.split_at_mut-edges.ensures.back_len in
+    let f1 = c.split_at_mut-from.ensures.front_len in
+    let f2 = c.split_at_mut-from.ensures.back_len in
     record {
       some = f.some_fit;
       told = f.told;
       key = omega arith;
-      ends = subst (λ (z : ℕ). limit * width z ≤ length c.split-at-mut-queue.result.0.now) (sym l) (omega arith);
-      edges-end = subst (λ (z : ℕ). limit * moves_of z ≤ length c.split-at-mut-edges.result.0.now) (sym l) (omega arith);
+      ends = subst (λ (z : ℕ). limit * width z ≤ length c.split_at_mut-queue.result.0.now) (sym l) (omega arith);
+      edges_end = subst (λ (z : ℕ). limit * moves_of z ≤ length c.split_at_mut-edges.result.0.now) (sym l) (omega arith);
       in_from = omega arith;
       small = omega arith;
       fits = omega arith;
     }
 
-pub look-found-requires : goal.look-found-requires
-look-found-requires c =
+pub look_found-requires : goal.look_found-requires
+look_found-requires c =
     let p = c.args.p.now in
-    let limit = c.states-that-fit-limit.result in
-    let f = c.states-that-fit-limit.ensures in
+    let limit = c.states_that_fit-limit.result in
+    let f = c.states_that_fit-limit.ensures in
     let fits = f.fits in
     let l = length_program p in
     let n = c.in-Some.n in
     let told = c.in-Some.ensures in
     let few = told.few in
-    let k2 = c.split-at-mut-key.ensures.back_len in
-    let q1 = c.split-at-mut-queue.ensures.front-len in
-    let q2 = c.split-at-mut-queue.ensures.back_len in
-    let e1 = c.split-at-mut-edges.ensures.front-len in
-    let e2 = c.split-at-mut-edges.ensures.back_len in
-    let f1 = c.split-at-mut-from.ensures.front-len in
-    let f2 = c.split-at-mut-from.ensures.back_len in
+    let k2 = c.split_at_mut-key.ensures.back_len in
+    let q1 = c.split_at_mut-queue.ensures.front_len in
+    let q2 = c.split_at_mut-queue.ensures.back_len in
+    let e1 = c.split_at_mut-edges.ensures.front_len in
+    let e2 = c.split_at_mut-edges.ensures.back_len in
+    let f1 = c.split_at_mut-from.ensures.front_len in
+    let f2 = c.split_at_mut-from.ensures.back_len in
     let kq = c.explore.auto.queue in
     let ke = c.explore.auto.edges in
     let kt = c.explore.auto.table in
@@ -64,7 +64,7 @@ look-found-requires c =
     }
 
 pub returns-in-None : goal.returns-in-None
-returns-in-None c = ((λ m h w. crowded_too (program c.args.p.now) c.states-that-fit-limit.result m (c.states-that-fit-limit.ensures.most m h w) c.in-None.ensures), refl)
+returns-in-None c = ((λ m h w. crowded_too (program c.args.p.now) c.states_that_fit-limit.result m (c.states_that_fit-limit.ensures.most m h w) c.in-None.ensures), refl)
 
 pub returns-in-Some : goal.returns-in-Some
-returns-in-Some c = looked_of (program c.args.p.now) (length c.args.work.now) c.args.out.now c.look-found.new.out c.look-found.result c.look-found.ensures
+returns-in-Some c = looked_of (program c.args.p.now) (length c.args.work.now) c.args.out.now c.look_found.new.out c.look_found.result c.look_found.ensures

@@ -18,5 +18,5 @@ returns c =
     let q = c.args.queue.now in
     let g = c.args.edges.now in
     let x = c.requires.explored in
-    looked (program p) q g c.args.once.now c.args.guards c.args.n c.args.first c.search.new.cost c.search.new.from c.find-bad.result x c.requires.marks c.requires.done
-    (count_searched p q g c.args.guards c.args.n x c.search.new.cost c.search.new.from c.search.ensures.searched) c.find-bad.ensures
+    looked (program p) q g c.args.once.now c.args.guards c.args.n c.args.first c.search.new.cost c.search.new.from c.find_bad.result x c.requires.marks c.requires.done
+    (count_searched p q g c.args.guards c.args.n x c.search.new.cost c.search.new.from c.search.ensures.searched) c.find_bad.ensures

@@ -10,8 +10,8 @@ loop-k-preserved c =
     let ms = c.args.path.now in
     let k = c.loop-k.k in
     let o = c.loop-k.out in
-    let w = c.move-word.result in (
-      move_more c.args.threads k w ms o (omega arith) (omega arith) c.move-word.ensures c.loop-k.invariant.0,
+    let w = c.move_word.result in (
+      move_more c.args.threads k w ms o (omega arith) (omega arith) c.move_word.ensures c.loop-k.invariant.0,
       drop-set-lt (length ms) o k w (omega arith) ∙ c.loop-k.invariant.1,
     )
 

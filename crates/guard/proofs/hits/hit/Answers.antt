@@ -7,4 +7,4 @@ returns-then-by-threads c = sym (hit_out c.args.threads c.args.queue.now c.args.
 
 pub returns : goal.returns
 returns c =
-    c.hit-by-word.ensures ∙ sym (hit_next c.args.threads c.args.queue.now c.args.node c.args.by (omega arith) c.requires.words)
+    c.hit_by_word.ensures ∙ sym (hit_next c.args.threads c.args.queue.now c.args.node c.args.by (omega arith) c.requires.words)

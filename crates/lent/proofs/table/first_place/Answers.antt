@@ -8,5 +8,5 @@ unfolding home
 returns c =
     record {
       value = ap (λ h. h / 2 ^ (64 - c.args.shape.bits)) c.hash.ensures;
-      below = high_below c.hash.result c.args.shape.bits c.hash.type-inv (omega arith);
+      below = high_below c.hash.result c.args.shape.bits c.hash.type_inv (omega arith);
     }

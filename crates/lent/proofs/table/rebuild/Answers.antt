@@ -8,7 +8,7 @@ loop-i-init c =
     let w = mul-le-mul_right c.args.shape.width c.requires.begun in
     let h = c.requires.held in
     let k = c.clear.auto.table in
-    (probed_none c.args.shape c.args.queue.now c.clear.new.table c.args.since (omega arith) (omega arith) (λ p l. let z = c.clear.ensures.free p (omega (arith, c.table-places.ensures)) in omega arith), refl)
+    (probed_none c.args.shape c.args.queue.now c.clear.new.table c.args.since (omega arith) (omega arith) (λ p l. let z = c.clear.ensures.free p (omega (arith, c.table_places.ensures)) in omega arith), refl)
 
 pub enter-requires : goal.enter-requires
 enter-requires c =

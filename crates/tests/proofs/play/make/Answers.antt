@@ -14,8 +14,8 @@ out-requires c =
     let w = c.requires.long in
     record { same = c.requires.same; room = omega arith; thread = omega arith; holds = c.requires.holds }
 
-pub at-once-requires : goal.at-once-requires
-at-once-requires c =
+pub at_once-requires : goal.at_once-requires
+at_once-requires c =
     let l = length_program c.args.p.now in
     let w = c.requires.long in
     record { same = c.requires.same; room = omega arith; thread = omega arith; holds = c.requires.holds }

@@ -15,7 +15,7 @@ loop-i-init c =
 pub loop-i-preserved : goal.loop-i-preserved
 loop-i-preserved c =
     let i = c.loop-i.invariant in
-    let l = c.copy-from-slice.ensures.len in
-    let e = c.copy-from-slice.ensures.after in
+    let l = c.copy_from_slice.ensures.len in
+    let e = c.copy_from_slice.ensures.after in
     let n = ap length e in
     (subst (λ (ws : List ℕ). Holds (program c.args.p.now) ws) (sym e) (c.if-not-make.ensures refl), l ∙ i.1, sym n ∙ l ∙ i.1)

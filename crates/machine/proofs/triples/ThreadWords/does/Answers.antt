@@ -24,7 +24,7 @@ returns-in-Add c a h =
           (register_read t a c.in-Add.a.0 c.nibble.result h (c.nibble.ensures.value 4 (search rules)))
           (register_read t a c.in-Add.b.0 c.nibble-in-Add.result h (c.nibble-in-Add.ensures.value 4 (search rules)))
           refl,
-      c.with-register-in-Add.ensures a h (still_standing t c.requires.standing a h),
+      c.with_register-in-Add.ensures a h (still_standing t c.requires.standing a h),
     )
 
 pub returns-in-Load : goal.returns-in-Load
@@ -37,7 +37,7 @@ returns-in-Load c a h =
           (field_read 8 c.args.memory c.in-Load.x.0 c.nibble-in-Load.result (c.nibble-in-Load.ensures.value 8 (search rules)))
           (c.read-value.ensures.value a h)
           refl,
-      c.with-register-in-Load.ensures a h (still_standing t c.requires.standing a h),
+      c.with_register-in-Load.ensures a h (still_standing t c.requires.standing a h),
     )
 
 pub returns-in-Store : goal.returns-in-Store
@@ -49,7 +49,7 @@ returns-in-Store c a h =
           ∙ did_store m a _ c.in-Store.x.0 c.in-Store.r.0 c.nibble-in-Store.result
           (register_read t a c.in-Store.r.0 c.nibble-in-Store.result h (c.nibble-in-Store.ensures.value 4 (search rules)))
           refl,
-      c.with-store.ensures a h (still_standing t c.requires.standing a h),
+      c.with_store.ensures a h (still_standing t c.requires.standing a h),
     )
 
 pub returns-then-waiting-eq0 : goal.returns-then-waiting-eq0

@@ -13,8 +13,8 @@ returns-then-len-eq0 c =
       small = c.requires.small;
     }
 
-pub unpack-row-requires : goal.unpack-row-requires
-unpack-row-requires c =
+pub unpack_row-requires : goal.unpack_row-requires
+unpack_row-requires c =
     let (a, h, pc) = c.requires.standing in
     let e = c.waiting-len.ensures a h in
     let held = h.0.held in
@@ -23,14 +23,14 @@ unpack-row-requires c =
 pub returns : goal.returns
 returns c =
     let t = c.args.self in
-    let q = c.unpack-row.result in
+    let q = c.unpack_row.result in
     let e = c.newest.ensures in
     let s = read_small q.items q.begin q.len c.args.place.0 c.args.memory q.small c.requires.small in
     record {
       value = λ a h.
           e
           ∙ ap (λ (ws : List Wait). newest ws c.args.place.0 c.args.memory)
-          (c.unpack-row.ensures.is
+          (c.unpack_row.ensures.is
           ∙ ap (λ (k : ℕ). pairs k t.values t.places) (c.waiting-len.ensures a h ∙ sym (word_parts t.first t.values t.places a h).1)
           ∙ row_is t.first t.values t.places a h);
       small = omega arith;

@@ -3,8 +3,8 @@ use Rattle.machine.specs.Stores.{wait}
 use Rattle.machine.proofs.WordLaws.{first_few, pushed_packs}
 use Rattle.machine.proofs.triples.ThreadWords.with_store.Goals as goal
 
-pub overflow-add-result : goal.overflow-add-result
-overflow-add-result c = let (a, h, pc) = c.requires.standing in omega (arith, first_few _ _ _ a h)
+pub overflow_add-result : goal.overflow_add-result
+overflow_add-result c = let (a, h, pc) = c.requires.standing in omega (arith, first_few _ _ _ a h)
 
 pub returns : goal.returns
 returns c a h pc =

@@ -9,8 +9,8 @@ returns-then-n-self c =
     let r = c.args.self.now in
     λ s k. no_thread r.p.count c.args.n r.words s r.long r.p.few c.if-n-self.true k
 
-pub unpack-thread-requires : goal.unpack-thread-requires
-unpack-thread-requires c =
+pub unpack_thread-requires : goal.unpack_thread-requires
+unpack_thread-requires c =
     let r = c.args.self.now in
     let (s, k, l) = held (program r.p) (state r) r.reached in
     thread_words r.p.count c.args.n r.words s r.long r.p.few c.if-n-self.false k
@@ -18,4 +18,4 @@ unpack-thread-requires c =
 pub returns : goal.returns
 returns c =
     let r = c.args.self.now in
-    λ s k. thread_had r.p.count c.args.n r.words s _ r.long r.p.few c.if-n-self.false k c.unpack-thread.ensures
+    λ s k. thread_had r.p.count c.args.n r.words s _ r.long r.p.few c.if-n-self.false k c.unpack_thread.ensures
