@@ -1,6 +1,6 @@
 /* The fewest fences, for C and C++: the proved calls `look` and `outcomes` of the static library.
  *
- * Link target/staticlib/libcapi.a, which `rt staticlib capi` writes. The library allocates nothing, keeps nothing between
+ * Link crates/capi/out/libcapi.a, which `rt lib` in crates/capi writes. The library allocates nothing, keeps nothing between
  * calls, and calls nothing but memcpy and memset: all memory is lent by the caller. Different threads may call it with
  * different memory.
  *
