@@ -1,7 +1,7 @@
 /* The fewest fences, for C and C++: the proved calls `look` and `outcomes` of the static library.
  *
  * Link crates/capi/out/libcapi.a, which `rt lib` in crates/capi writes. The library allocates nothing, keeps nothing between
- * calls, and calls nothing but memcpy and memset: all memory is lent by the caller. Different threads may call it with
+ * calls, and calls nothing but memcpy, memmove and memset: all memory is lent by the caller. Different threads may call it with
  * different memory.
  *
  * A program is words: how many threads (1 to 4); for each how many instructions (at most 8), and four words for each:
