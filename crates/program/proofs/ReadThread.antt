@@ -1,76 +1,83 @@
--- Reading a thread from the words s, which begins at 'at': why there is none where reading stops, and what one more
--- instruction adds.
-use Rattle.std.proofs.Common.{◌≡◌, ℕ, ◌+◌, ◌-◌, ◌*◌, ◌/◌, ◌<◌, ◌≤◌, T, ◌⊎◌, List, [], ◌∷◌, ◌++◌, map, length, get_or, take, drop, set, sym, ap, ◌∙◌, subst, append_assoc, append-nil, arith, length-append}
-use Rattle.std.proofs.lemmas.List.{drop-drop, drop_more, length-drop, length-map, length-take-le, take_more_set, map_push}
+-- Reading a thread from the words a, of which w is the first and s are the others: why there is none where reading stops,
+-- and what one more instruction adds. Of the words s those of the instructions 'code' are read, and 'rest' is left.
+use Rattle.std.proofs.Common.{◌≡◌, ℕ, ◌-◌, ◌*◌, ◌<◌, ◌≤◌, T, List, [], ◌∷◌, ◌++◌, map, length, get_or, take, drop, sym, refl, ap, ◌∙◌, subst, append_assoc, append-nil, arith, length-append}
+use Rattle.std.proofs.lemmas.List.{drop_at, length-drop, length-map, map_push, take_all}
 use Rattle.model.specs.Code.{I, Thread, ok_i, ok_t, row_i, row_t}
 use Rattle.program.specs.declared.instructions.Instruction.{Instruction}
-use Rattle.program.specs.Instructions.{instruction, instructions}
+use Rattle.program.specs.Instructions.{instruction}
 use Rattle.program.specs.Post.{ReadsI, Begins}
-use Rattle.program.proofs.Rows.{length_row_t, row_t_append, ok_t_push, instruction_at, four_at}
+use Rattle.program.proofs.Rows.{length_row_t, row_t_append, ok_t_push, instruction_at}
+
+pub no_words : (a : List ℕ) → length a ≡ 0 → (t : Thread) (b : List ℕ) → Begins a t b → ⊥
+no_words a h t b x = let e = ap length x.is in absurd (omega arith)
 
 -- what the first word is, and what stands behind it
-begins_count : (s : List ℕ) (at : ℕ) → at < length s → (t : Thread) (rest : List ℕ) → Begins (drop at s) t rest → length t ≡ get_or s at 0
-begins_count s at h t rest b = let e = b.is ∙ drop_more s at 0 h in cc
+count_is : (a : List ℕ) (w : ℕ) (s : List ℕ) (t : Thread) (b : List ℕ) → a ≡ w ∷ s → Begins a t b → length t ≡ w
+count_is a w s t b e x = let f = x.is ∙ e in cc
 
-begins_row : (s : List ℕ) (at : ℕ) → at < length s → (t : Thread) (rest : List ℕ) → Begins (drop at s) t rest → row_t t ++ rest ≡ drop (at + 1) s
-begins_row s at h t rest b = let e = b.is ∙ drop_more s at 0 h in cc
+row_is : (a : List ℕ) (w : ℕ) (s : List ℕ) (t : Thread) (b : List ℕ) → a ≡ w ∷ s → Begins a t b → row_t t ++ b ≡ s
+row_is a w s t b e x = let f = x.is ∙ e in cc
 
-pub no_words : (s : List ℕ) (at : ℕ) → length s ≤ at → (t : Thread) (rest : List ℕ) → Begins (drop at s) t rest → ⊥
-no_words s at h t rest b = let e = ap length b.is in let d = length-drop at s in omega arith
+pub too_many : (a : List ℕ) (w : ℕ) (s : List ℕ) → a ≡ w ∷ s → 8 < w → (t : Thread) (b : List ℕ) → Begins a t b → ⊥
+too_many a w s e h t b x =
+    let n = count_is a w s t b e x in
+    let f = x.few in
+    absurd (omega arith)
 
-pub too_short : (s : List ℕ) (at : ℕ) → at < length s → (8 < get_or s at 0) ⊎ ((length s - at - 1) / 4 < get_or s at 0) → (t : Thread) (rest : List ℕ) → Begins (drop at s) t rest → ⊥
-too_short s at h w t rest b =
-    let n = begins_count s at h t rest b in
-    let e = ap length (begins_row s at h t rest b) in
-    let f = b.few in
-    omega (arith, length-drop (at + 1) s, length-append (row_t t) rest, length_row_t t)
+pub too_short : (a : List ℕ) (w : ℕ) (s : List ℕ) (code : Thread) (rest : List ℕ) → a ≡ w ∷ s → row_t code ++ rest ≡ s → length code < w → length rest < 4 → (t : Thread) (b : List ℕ) → Begins a t b → ⊥
+too_short a w s code rest e r h l t b x =
+    let n = count_is a w s t b e x in
+    let f : length (row_t t ++ b) ≡ length (row_t code ++ rest) = ap length (row_is a w s t b e x ∙ sym r) in
+    absurd (omega (arith, length-append (row_t t) b, length-append (row_t code) rest, length_row_t t, length_row_t code))
 
--- the four words at n, the words of an instruction
-abbrev pub four : List ℕ → ℕ → List ℕ
-four s n = get_or s n 0 ∷ get_or s (n + 1) 0 ∷ get_or s (n + 2) 0 ∷ get_or s (n + 3) 0 ∷ []
+-- the four words in front
+abbrev pub four : List ℕ → List ℕ
+four s = get_or s 0 0 ∷ get_or s 1 0 ∷ get_or s 2 0 ∷ get_or s 3 0 ∷ []
 
-pub no_instruction : (s : List ℕ) (at k : ℕ) → at < length s → k < get_or s at 0 → at + 1 + 4 * k + 4 ≤ length s → ((i : I) → ReadsI (four s (at + 1 + 4 * k)) i → ⊥) → (t : Thread) (rest : List ℕ) → Begins (drop at s) t rest → ⊥
-no_instruction s at k h l u no-i t rest b =
-    let n = begins_count s at h t rest b in
-    let (i, r) = instruction_at t rest k b.fine (omega arith) in
-    let d : take 4 (drop (4 * k) (row_t t ++ rest)) ≡ four s (at + 1 + 4 * k) =
-    ap (λ w. take 4 (drop (4 * k) w)) (begins_row s at h t rest b)
-    ∙ ap (take 4) (drop-drop (4 * k) (at + 1) s)
-    ∙ ap (take 4) (four_at s (at + 1 + 4 * k) u) in
-    no-i i (r.0 ∙ d, r.1)
+front_four : (s : List ℕ) → 4 ≤ length s → s ≡ four s ++ drop 4 s
+front_four (i ∷ j ∷ k ∷ l ∷ s) h = refl
+front_four (i ∷ j ∷ k ∷ []) h = absurd (omega arith)
+front_four (i ∷ j ∷ []) h = absurd (omega arith)
+front_four (i ∷ []) h = absurd (omega arith)
+front_four [] h = absurd (omega arith)
+
+take_four : (s : List ℕ) → 4 ≤ length s → take 4 s ≡ four s
+take_four s h = ap (take 4) (front_four s h)
+
+pub no_instruction : (a : List ℕ) (w : ℕ) (s : List ℕ) (code : Thread) (rest : List ℕ) → a ≡ w ∷ s → row_t code ++ rest ≡ s → length code < w → 4 ≤ length rest → ((i : I) → ReadsI (four rest) i → ⊥) → (t : Thread) (b : List ℕ) → Begins a t b → ⊥
+no_instruction a w s code rest e r h u no-i t b x =
+    let n = count_is a w s t b e x in
+    let k = length code in
+    let (i, is) = instruction_at t b k x.fine (omega arith) in
+    let left : drop (4 * k) s ≡ rest = ap (drop (4 * k)) (sym r) ∙ drop_at (row_t code) rest (4 * k) (length_row_t code) in
+    let d : take 4 (drop (4 * k) (row_t t ++ b)) ≡ four rest = ap (λ v. take 4 (drop (4 * k) v)) (row_is a w s t b e x) ∙ ap (take 4) left ∙ take_four rest u in
+    no-i i (is.0 ∙ d, is.1)
 
 -- one more instruction
-instructions_more : (code : List Instruction) (k : ℕ) (i : Instruction) → k < length code → instructions (set code k i) (k + 1) ≡ instructions code k ++ instruction i ∷ []
-instructions_more code k i h = ap (map instruction) (take_more_set code k i h) ∙ map_push instruction (take k code) i
+pub code_more : (is : List Instruction) (i : Instruction) → map instruction (is ++ i ∷ []) ≡ map instruction is ++ instruction i ∷ []
+code_more is i = map_push instruction is i
 
-pub ok_more : (code : List Instruction) (k : ℕ) (i : Instruction) → k < length code → T (ok_t (instructions code k)) → T (ok_i (instruction i)) → T (ok_t (instructions (set code k i) (k + 1)))
-ok_more code k i h f g = subst (λ (t : Thread). T (ok_t t)) (sym (instructions_more code k i h)) (ok_t_push (instructions code k) (instruction i) f g)
+pub row_more : (s rest : List ℕ) (is : List Instruction) (i : Instruction) → row_t (map instruction is) ++ rest ≡ s → 4 ≤ length rest → row_i (instruction i) ≡ four rest → row_t (map instruction (is ++ i ∷ [])) ++ take (length rest - 4) (drop 4 rest) ≡ s
+row_more s rest is i r u e =
+    let t = map instruction is in
+    let j = instruction i in
+    let all : take (length rest - 4) (drop 4 rest) ≡ drop 4 rest = take_all (length rest - 4) (drop 4 rest) (omega (arith, length-drop 4 rest)) in
+    ap (λ w. row_t (map instruction (is ++ i ∷ [])) ++ w) all
+    ∙ ap (λ (c : Thread). row_t c ++ drop 4 rest) (code_more is i)
+    ∙ ap (λ w. w ++ drop 4 rest) (row_t_append t (j ∷ []) ∙ ap (λ w. row_t t ++ w) (append-nil (row_i j) ∙ e))
+    ∙ append_assoc (row_t t) (four rest) (drop 4 rest)
+    ∙ ap (λ w. row_t t ++ w) (sym (front_four rest u))
+    ∙ r
 
-pub row_more : (s : List ℕ) (at k : ℕ) (code : List Instruction) (i : Instruction) → k < length code → at + 1 + 4 * k + 4 ≤ length s → row_i (instruction i) ≡ four s (at + 1 + 4 * k) → row_t (instructions code k) ++ drop (at + 1 + 4 * k) s ≡ drop (at + 1) s → row_t (instructions (set code k i) (k + 1)) ++ drop (at + 1 + 4 * (k + 1)) s ≡ drop (at + 1) s
-row_more s at k code i h u e before =
-    let n : at + 1 + 4 * (k + 1) ≡ at + 1 + 4 * k + 4 = omega arith in
-    let t = instructions code k in
-    let row : row_t (instructions (set code k i) (k + 1)) ≡ row_t t ++ row_i (instruction i) =
-    ap row_t (instructions_more code k i h) ∙ row_t_append t (instruction i ∷ []) ∙ ap (λ r. row_t t ++ r) (append-nil (row_i (instruction i))) in
-    let rest : row_i (instruction i) ++ drop (at + 1 + 4 * (k + 1)) s ≡ drop (at + 1 + 4 * k) s =
-    ap (λ r. r ++ drop (at + 1 + 4 * (k + 1)) s) e
-    ∙ ap (λ m. four s (at + 1 + 4 * k) ++ drop m s) n
-    ∙ sym (four_at s (at + 1 + 4 * k) u) in
-    ap (λ r. r ++ drop (at + 1 + 4 * (k + 1)) s) row
-    ∙ append_assoc (row_t t) (row_i (instruction i)) (drop (at + 1 + 4 * (k + 1)) s)
-    ∙ ap (λ r. row_t t ++ r) rest
-    ∙ before
+pub ok_more : (is : List Instruction) (i : Instruction) → T (ok_t (map instruction is)) → T (ok_i (instruction i)) → T (ok_t (map instruction (is ++ i ∷ [])))
+ok_more is i f g = subst (λ (t : Thread). T (ok_t t)) (sym (code_more is i)) (ok_t_push (map instruction is) (instruction i) f g)
 
 -- all instructions read
-pub thread_begins : (s : List ℕ) (at len : ℕ) (code : List Instruction) → at < length s → len ≡ get_or s at 0 → length code ≡ 8 → len ≤ 8 → row_t (instructions code len) ++ drop (at + 1 + 4 * len) s ≡ drop (at + 1) s → T (ok_t (instructions code len)) → Begins (drop at s) (instructions code len) (drop (1 + 4 * len) (drop at s))
-thread_begins s at len code h e eight few row fine =
-    let n : length (instructions code len) ≡ len = length-map (take len code) instruction ∙ length-take-le len code (omega arith) in
-    let d : drop (1 + 4 * len) (drop at s) ≡ drop (at + 1 + 4 * len) s = drop-drop (1 + 4 * len) at s ∙ ap (λ m. drop m s) (omega arith) in
+pub thread_begins : (a : List ℕ) (w : ℕ) (s : List ℕ) (is : List Instruction) (rest : List ℕ) → a ≡ w ∷ s → length is ≡ w → w ≤ 8 → row_t (map instruction is) ++ rest ≡ s → T (ok_t (map instruction is)) → Begins a (map instruction is) rest
+thread_begins a w s is rest e n few r fine =
+    let l = length-map is instruction in
     record {
-      is = ap (λ r. length (instructions code len) ∷ (row_t (instructions code len) ++ r)) d
-          ∙ ap (λ r. length (instructions code len) ∷ r) row
-          ∙ ap (λ m. m ∷ drop (at + 1) s) (n ∙ e)
-          ∙ sym (drop_more s at 0 h);
+      is = ap (λ v. length (map instruction is) ∷ v) r ∙ ap (λ m. m ∷ s) (l ∙ n) ∙ sym e;
       few = omega arith;
       fine = fine;
     }

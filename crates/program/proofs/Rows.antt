@@ -1,8 +1,8 @@
 -- Rows of words: what stands where in the words of a thread and of a program. A thread's instructions take four words
 -- each, so the k-th stands at 4 * k; that is all that reading needs.
-use Rattle.std.proofs.Common.{◌≡◌, ℕ, zero, suc, ◌+◌, ◌*◌, ◌<◌, ◌≤◌, Bool, true, false, ◌&&◌, T, List, [], ◌∷◌, ◌++◌, length, get_or, take, drop, sym, refl, ap, ◌∙◌, append_assoc, arith, length-append}
+use Rattle.std.proofs.Common.{◌≡◌, ℕ, zero, suc, ◌+◌, ◌*◌, ◌<◌, ◌≤◌, Bool, true, false, ◌&&◌, T, List, [], ◌∷◌, ◌++◌, length, get_or, take, drop, sym, refl, ap, ◌∙◌, append_assoc, append-nil, arith, length-append}
 use Rattle.std.proofs.lemmas.List.{drop-drop, drop_more}
-use Rattle.model.specs.Code.{I, sets, adds, loads, stores, fence, Thread, ok_i, ok_t, row_i, row_t}
+use Rattle.model.specs.Code.{I, sets, adds, loads, stores, fence, Thread, Prog, ok_i, ok_t, row_i, row_t, row_ts}
 use Rattle.program.specs.Post.{ReadsI}
 
 pub and_both : (a b : Bool) → T a → T b → T (a && b)
@@ -81,3 +81,10 @@ four_at s n h =
     ∙ ap (λ r. get_or s n 0 ∷ r) (drop_more s (n + 1) 0 (omega arith) ∙ ap (λ m. get_or s (n + 1) 0 ∷ drop m s) a
     ∙ ap (λ r. get_or s (n + 1) 0 ∷ r) (drop_more s (n + 2) 0 (omega arith) ∙ ap (λ m. get_or s (n + 2) 0 ∷ drop m s) b
     ∙ ap (λ r. get_or s (n + 2) 0 ∷ r) (drop_more s (n + 3) 0 (omega arith) ∙ ap (λ m. get_or s (n + 3) 0 ∷ drop m s) c)))
+
+-- one more thread
+pub row_ts_push : (p : Prog) (t : Thread) → row_ts (p ++ t ∷ []) ≡ row_ts p ++ (length t ∷ row_t t)
+row_ts_push [] t = ap (λ r. length t ∷ r) (append-nil (row_t t))
+row_ts_push (u ∷ p) t =
+    ap (λ r. length u ∷ (row_t u ++ r)) (row_ts_push p t)
+    ∙ ap (λ r. length u ∷ r) (sym (append_assoc (row_t u) (row_ts p) (length t ∷ row_t t)))

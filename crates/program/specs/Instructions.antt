@@ -1,6 +1,5 @@
 -- What an instruction of the code means: one of the model.
-use Rattle.std.specs.Prelude.{ℕ, List, map, take}
-use Rattle.model.specs.Code.{I, sets, adds, loads, stores, fence, Thread}
+use Rattle.model.specs.Code.{I, sets, adds, loads, stores, fence}
 use Rattle.program.specs.declared.instructions.Instruction.{Instruction}
 use Rattle.program.specs.declared.instructions.Instruction.TheVariants.{Set, Add, Load, Store, Fence}
 
@@ -10,7 +9,3 @@ instruction (Add r a b) = adds r.0 a.0 b.0
 instruction (Load r x) = loads r.0 x.0
 instruction (Store x r) = stores x.0 r.0
 instruction Fence = fence
-
--- the first n of these instructions
-abbrev pub instructions : List Instruction → ℕ → Thread
-instructions is n = map instruction (take n is)

@@ -1,5 +1,6 @@
 -- What reading words promises: what is read, and that nothing else could be; or that nothing can be read.
-use Rattle.std.specs.Prelude.{◌≡◌, ℕ, ◌+◌, ◌*◌, ◌<◌, ◌≤◌, T, List, ◌∷◌, ◌++◌, length, drop, Some, None, Option}
+use Rattle.std.specs.Prelude.{◌≡◌, ℕ, ◌<◌, ◌≤◌, T, List, ◌∷◌, ◌++◌, length, Some, None, Option}
+use Rattle.std.specs.Borrow.{Bor}
 use Rattle.std.proofs.Math.Option.{some, none}
 use Rattle.model.specs.Code.{opt, nth, I, ok_i, ok_t, row_i, row_t, Prog, Reads}
 use Rattle.model.specs.Code as model
@@ -23,8 +24,8 @@ pub record Begins (s : List ℕ) (t : model.Thread) (rest : List ℕ) : Type 0 w
   pub few : length t ≤ 8
   pub fine : T (ok_t t)
 
-abbrev pub ThreadRead : List ℕ → Option Thread → Type 0
-ThreadRead s (Some t) = Begins s (thread t) (drop (1 + 4 * t.len) s)
+abbrev pub ThreadRead : List ℕ → Option (Thread × Bor (List ℕ)) → Type 0
+ThreadRead s (Some r) = Begins s (thread r.0) r.1.now
 ThreadRead s None = (t : model.Thread) (rest : List ℕ) → Begins s t rest → ⊥
 
 abbrev pub ProgramRead : List ℕ → Option Program → Type 0

@@ -1,18 +1,18 @@
 // Instructions, and the numbers that they name.
 
 // A register's number, below 4.
-#[derive(Clone, Copy)]
+#[derive(Clone, Copy, PartialEq, Eq, Debug)]
 pub struct Register(pub u32);
 
 // A place in memory, below 8.
-#[derive(Clone, Copy)]
+#[derive(Clone, Copy, PartialEq, Eq, Debug)]
 pub struct Place(pub u32);
 
 // A thread's number, below 4.
-#[derive(Clone, Copy)]
+#[derive(Clone, Copy, PartialEq, Eq, Debug)]
 pub struct ThreadNumber(pub u32);
 
-#[derive(Clone, Copy)]
+#[derive(Clone, Copy, PartialEq, Eq, Debug, Default)]
 pub enum Instruction {
     // a number into a register
     Set(Register, u32),
@@ -23,5 +23,6 @@ pub enum Instruction {
     // a register to a place
     Store(Place, Register),
     // only when nothing of the thread waits
+    #[default]
     Fence,
 }

@@ -1,14 +1,15 @@
 // Words to program and back. As words a program is how many threads it has; for each how many instructions, and four
 // words for each of these: 0 register number 0; 1 register first second; 2 register place 0; 3 place register 0;
 // 4 0 0 0.
-ghost use Rattle.std.specs.Prelude.{◌≡◌, [], ◌∷◌, ◌++◌, length, drop, IfOk, OnOk};
+ghost use Rattle.std.specs.Prelude.{◌≡◌, [], ◌∷◌, ◌++◌, map, length, IfOk, OnOk};
 ghost use Rattle.model.specs.Code.{row_i, row_t, Reads};
 ghost use Rattle.program.specs.Instructions.{instruction};
-ghost use Rattle.program.specs.Meaning.{thread, program};
+ghost use Rattle.program.specs.Meaning.{program};
 ghost use Rattle.program.specs.Post.{InstructionRead, ThreadRead, ProgramRead};
 
 use crate::instructions::{Instruction, Place, Register};
 use crate::threads::{Program, Thread};
+use arrayvec::ArrayVec;
 use std::alloc::{AllocError, Global};
 
 // The instruction that four words are, if they are one.
@@ -37,69 +38,43 @@ fn instruction_from_words(code: u32, first: u32, second: u32, third: u32) -> Opt
     }
 }
 
-// The thread that the words from `at` on begin with, if they begin with one.
-fn thread_from_words(words: &[u32], at: usize) -> Option<Thread>
-    ensures { ThreadRead (drop at words.now) result }
+// The thread that the words begin with, if they begin with one, and the words behind it.
+fn thread_from_words(words: &[u32]) -> Option<(Thread, &[u32])>
+    ensures { ThreadRead words.now result }
 {
-    if at >= words.len() {
+    let (len, mut rest) = words.split_first()?;
+    if *len > 8 {
         return None;
     }
-    let len = words[at] as usize;
-    if len > 8 || (words.len() - at - 1) / 4 < len {
-        return None;
-    }
-    let mut code = [Instruction::Fence; 8];
-    for k in 0..len {
-        let i = at + 1 + 4 * k;
-        let Some(instruction) = instruction_from_words(
-            words[i],
-            words[i + 1],
-            words[i + 2],
-            words[i + 3],
-        ) else {
+    let mut code = ArrayVec::new();
+    for _k in 0..*len {
+        let [a, b, c, d, behind @ ..] = rest else {
             return None;
         };
-        code[k] = instruction;
+        code.push(instruction_from_words(*a, *b, *c, *d)?);
+        rest = behind;
     }
-    Some(Thread { code, len })
+    Some((Thread { code }, rest))
 }
 
 // The program that the words are, if they are one.
 pub fn from_words(words: &[u32]) -> Option<Program>
     ensures { ProgramRead words.now result }
 {
-    if words.is_empty() {
+    let (count, mut rest) = words.split_first()?;
+    if *count < 1 || *count > 4 {
         return None;
     }
-    let count = words[0] as usize;
-    if count < 1 || count > 4 {
+    let mut threads = ArrayVec::new();
+    for _n in 0..*count {
+        let (thread, behind) = thread_from_words(rest)?;
+        threads.push(thread);
+        rest = behind;
+    }
+    if !rest.is_empty() {
         return None;
     }
-    let mut threads = [
-        empty_thread(),
-        empty_thread(),
-        empty_thread(),
-        empty_thread(),
-    ];
-    let mut at = 1;
-    for n in 0..count {
-        let Some(thread) = thread_from_words(words, at) else {
-            return None;
-        };
-        at += 1 + 4 * thread.len;
-        threads[n] = thread;
-    }
-    if at != words.len() {
-        return None;
-    }
-    Some(Program { threads, count })
-}
-
-fn empty_thread() -> Thread {
-    Thread {
-        code: [Instruction::Fence; 8],
-        len: 0,
-    }
+    Some(Program { threads })
 }
 
 // The four words of an instruction.
@@ -115,13 +90,12 @@ pub fn instruction_to_words(i: Instruction) -> [u32; 4]
     }
 }
 
-// Adds a thread's words: how many instructions, and each.
-fn push_thread(words: &mut Vec<u32>, t: &Thread) -> Result<(), AllocError>
-    ensures { OnOk result (words.new.items ≡ words.old.items ++ (length (thread t.now) ∷ row_t (thread t.now))) }
+// Adds the four words of each instruction.
+pub fn push_code(words: &mut Vec<u32>, code: &[Instruction]) -> Result<(), AllocError>
+    ensures { OnOk result (words.new.items ≡ words.old.items ++ row_t (map instruction code.now)) }
 {
-    words.push(t.len as u32)?;
-    for k in 0..t.len {
-        words.extend_from_slice(&instruction_to_words(t.code[k]))?;
+    for i in code {
+        words.extend_from_slice(&instruction_to_words(*i))?;
     }
     Ok(())
 }
@@ -131,9 +105,11 @@ pub fn to_words(heap: Global, p: &Program) -> Result<Vec<u32>, AllocError>
     ensures { IfOk result (λ v. Reads v.items (program p.now)) }
 {
     let mut words = Vec::new(heap);
-    words.push(p.count as u32)?;
-    for n in 0..p.count {
-        push_thread(&mut words, &p.threads[n])?;
+    words.push(p.count() as u32)?;
+    for thread in p.threads() {
+        let code = thread.instructions();
+        words.push(code.len() as u32)?;
+        push_code(&mut words, code)?;
     }
     Ok(words)
 }

@@ -1,32 +1,36 @@
-use Rattle.std.proofs.Common.{◌≡◌, ◌+◌, ◌*◌, ◌<◌, ◌≤◌, length, get_or, refl, inl, inr, arith, length-set}
-use Rattle.program.proofs.ReadThread.{no_words, too_short, no_instruction, ok_more, row_more, thread_begins}
+use Rattle.std.proofs.Common.{◌≡◌, ◌+◌, ◌<◌, map, length, ap, ◌∙◌, arith}
+use Rattle.std.proofs.lemmas.List.{length-map, length_push}
+use Rattle.program.specs.Instructions.{instruction}
+use Rattle.program.proofs.ReadThread.{no_words, too_many, too_short, no_instruction, ok_more, row_more, thread_begins}
 use Rattle.program.proofs.words.thread_from_words.Goals as goal
-use Rattle.program.proofs.words.thread_from_words.Goals.{then-len-gt8-via-then-len-gt8, then-len-gt8-via-else-len-gt8+then-words-at}
 
-pub returns-then-at-words : goal.returns-then-at-words
-returns-then-at-words c = no_words c.args.words.now c.args.at c.if-at-words.true
+pub returns-in_err-len : goal.returns-in_err-len
+returns-in_err-len c = rw c.from_residual.ensures (no_words c.args.words.now c.in_err-len.ensures.cases)
 
 pub returns-then-len-gt8 : goal.returns-then-len-gt8
-returns-then-len-gt8 c =
-    too_short c.args.words.now c.args.at c.if-at-words.false
-    (elim c.then-len-gt8.branch [ then-len-gt8-via-then-len-gt8 w ↦ inl w.if-len-gt8.true | then-len-gt8-via-else-len-gt8+then-words-at w ↦ inr w.if-words-at.true ])
+returns-then-len-gt8 c = too_many _ _ _ c.in_ok-len.ensures.cases.0 c.if-len-gt8.true
 
 pub returns-in_default : goal.returns-in_default
 returns-in_default c =
-    no_instruction c.args.words.now c.args.at c.loop-k.k c.if-at-words.false c.loop-k-test.true (omega arith)
-    c.in_default.ensures
+    let n : length (map instruction c.loop-k.code.items) < c.in_ok-len.len.now = let l = length-map c.loop-k.code.items instruction in let s = c.loop-k.invariant.so_many in omega arith in
+    too_short _ _ _ _ _ c.in_ok-len.ensures.cases.0 c.loop-k.invariant.words n c.in_default.len_below
+
+pub returns-in_err-instruction_from_words : goal.returns-in_err-instruction_from_words
+returns-in_err-instruction_from_words c =
+    let n : length (map instruction c.loop-k.code.items) < c.in_ok-len.len.now = let l = length-map c.loop-k.code.items instruction in let s = c.loop-k.invariant.so_many in omega arith in
+    rw c.from_residual-in_err-instruction_from_words.ensures
+    (no_instruction _ _ _ _ _ c.in_ok-len.ensures.cases.0 c.loop-k.invariant.words n c.in-len4-up.len_at_least c.in_err-instruction_from_words.ensures)
 
 pub loop-k-preserved : goal.loop-k-preserved
 loop-k-preserved c =
-    let k : c.loop-k.k < length c.loop-k.code = omega arith in
-    let u : c.args.at + 1 + 4 * c.loop-k.k + 4 ≤ length c.args.words.now = omega arith in
-    let r = c.in-Some.ensures in (
-      simp length-set c.loop-k.invariant.0,
-      row_more c.args.words.now c.args.at c.loop-k.k c.loop-k.code c.in-Some.instruction k u r.0 c.loop-k.invariant.1,
-      ok_more c.loop-k.code c.loop-k.k c.in-Some.instruction k c.loop-k.invariant.2 r.1,
-    )
+    let r = c.in_ok-instruction_from_words.ensures in
+    rw c.push.ensures.items record {
+      so_many = length_push c.loop-k.code.items c.in_ok-instruction_from_words.field-0 ∙ ap (λ n. n + 1) c.loop-k.invariant.so_many;
+      words = row_more _ _ c.loop-k.code.items c.in_ok-instruction_from_words.field-0 c.loop-k.invariant.words c.in-len4-up.len_at_least r.0;
+      fine = ok_more c.loop-k.code.items c.in_ok-instruction_from_words.field-0 c.loop-k.invariant.fine r.1;
+    }
 
 pub returns : goal.returns
 returns c =
-    let e : c.loop-k.k ≡ get_or c.args.words.now c.args.at 0 = omega arith in
-    thread_begins c.args.words.now c.args.at (get_or c.args.words.now c.args.at 0) c.loop-k.code c.if-at-words.false refl c.loop-k.invariant.0 c.if-len-gt8.false (rw e at c.loop-k.invariant.1) (rw e at c.loop-k.invariant.2)
+    let n : length c.loop-k.code.items ≡ c.in_ok-len.len.now = let s = c.loop-k.invariant.so_many in omega arith in
+    thread_begins _ _ _ _ _ c.in_ok-len.ensures.cases.0 n (omega arith) c.loop-k.invariant.words c.loop-k.invariant.fine
