@@ -7,4 +7,5 @@ pub mod MoveLaws
 pub mod Unpacking
 pub mod FirstWord
 pub mod StepLaws
+pub mod HeldState
 pub mod RunsFit

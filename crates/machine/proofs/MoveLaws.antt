@@ -1,14 +1,22 @@
 -- A move on words is the definition's: what the threads read and did is what the definition says of the state.
-use Rattle.std.proofs.Common.{◌≡◌, ℕ, ◌^◌, ◌<◌, List, [], ◌∷◌, length, get_or, set, sym, ap, ◌∙◌, subst, arith}
+use Rattle.std.proofs.Common.{◌≡◌, ℕ, ◌+◌, ◌*◌, ◌^◌, ◌<◌, ◌≤◌, Bool, true, false, List, [], ◌∷◌, length, get_or, set, sym, refl, ap, ◌∙◌, subst, arith}
+use Rattle.std.proofs.Common.{Some, None}
+use Rattle.std.proofs.Common as code
 use mathlib.Core.Option.{Option, some, none}
 use Rattle.std.proofs.lemmas.List.{length-set}
 use Rattle.lent.specs.Nibbles.{nibbles, number}
 use Rattle.lent.proofs.Fields.{nibbles_number, number_nibbles, nibbles_below, length_nibbles}
-use Rattle.model.specs.Code.{opt, nth, put, I, Prog}
-use Rattle.model.specs.Machine.{Wait, At, St, does, instr, move, next, out, with_thread, flushed}
-use Rattle.machine.specs.Packed.{pack, pack_ts, Packs}
-use Rattle.machine.specs.Post.{Holds}
+use Rattle.model.specs.Code.{pick, opt, nth, put, I, Prog}
+use Rattle.model.specs.Guards.{Guard, free, gmove}
+use Rattle.model.specs.Machine.{Wait, At, St, does, instr, move, next, out, with_thread, flushed, Move}
+use Rattle.model.proofs.Tools.{nth_below}
+use Rattle.program.proofs.Lookup.{nth_past}
+use Rattle.machine.specs.Packed.{pack, pack_ts, PacksAt, Packs}
+use Rattle.machine.specs.declared.threads.ThreadState.{ThreadState}
+use Rattle.machine.specs.Meaning.{at}
+use Rattle.machine.specs.Post.{Did, Holds, Stepped, ThreadAfter}
 use Rattle.machine.proofs.Did.{put_set}
+use Rattle.machine.proofs.StateLaws.{length_pack, same_count, thread_at}
 
 -- memory's word
 pub memory_is : (ws : List ℕ) (s : St) → Packs ws s → nibbles 8 (get_or ws 0 0) ≡ s.mem
@@ -37,11 +45,23 @@ next_by p s n a i r e f g =
     ∙ ap (λ (o : Option I). opt o none (λ i. opt (does s.mem a i) none (λ b. some (with_thread s n b)))) f
     ∙ ap (λ (o : Option At). opt o none (λ b. some (with_thread s n b))) g
 
+-- a thread that is not there moves nothing
+pub next_missing : (p : Prog) (s : St) (n : ℕ) → nth s.threads n ≡ none → move p s (next n) ≡ none
+next_missing p s n e = ap (λ (o : Option At). opt o none (λ a. opt (instr p n a) none (λ i. opt (does s.mem a i) none (λ b. some (with_thread s n b))))) e
+
+pub out_missing : (p : Prog) (s : St) (n : ℕ) → nth s.threads n ≡ none → move p s (out n) ≡ none
+out_missing p s n e = ap (λ (o : Option At). opt o none (λ a. flushed s n a a.waits)) e
+
 pub next_some : (p : Prog) (s : St) (n : ℕ) (a b : At) (i : I) → nth s.threads n ≡ some a → instr p n a ≡ some i → does s.mem a i ≡ some b → move p s (next n) ≡ some (with_thread s n b)
 next_some p s n a b i e f g = next_by p s n a i (some b) e f g
 
 pub next_held : (p : Prog) (s : St) (n : ℕ) (a : At) (i : I) → nth s.threads n ≡ some a → instr p n a ≡ some i → does s.mem a i ≡ none → move p s (next n) ≡ none
 next_held p s n a i e f g = next_by p s n a i none e f g
+
+-- the thread with its next instruction done, where it can be done
+pub after_is : (p : Prog) (s : St) (n : ℕ) (a : At) (i : I) (r : code.Option ThreadState) → nth s.threads n ≡ some a → instr p n a ≡ some i → Did s.mem a i r → ThreadAfter p s n r
+after_is p s n a i (Some t) e f d = (nth_below s.threads n e, next_some p s n a (at t) i e f d)
+after_is p s n a i None e f d = next_held p s n a i e f d
 
 -- a thread's oldest store
 pub out_none : (p : Prog) (s : St) (n : ℕ) (a : At) → nth s.threads n ≡ some a → a.waits ≡ [] → move p s (out n) ≡ none
@@ -50,8 +70,32 @@ out_none p s n a e f = ap (λ (o : Option At). opt o none (λ a. flushed s n a a
 pub out_some : (p : Prog) (s : St) (n : ℕ) (a : At) (w : Wait) (ws : List Wait) → nth s.threads n ≡ some a → a.waits ≡ w ∷ ws → move p s (out n) ≡ some (record { mem = put s.mem w.place w.val; threads = put s.threads n (record { pc = a.pc; regs = a.regs; waits = ws }) })
 out_some p s n a w ws e f = ap (λ (o : Option At). opt o none (λ a. flushed s n a a.waits)) e ∙ ap (flushed s n a) f
 
-pub held_thread : (p : Prog) (ws : List ℕ) (n : ℕ) → Holds p ws → n < length p → (s : St) × Packs ws s × (n < length s.threads)
-held_thread p ws n h l = let (s, k, e) = h in (s, k, omega arith)
+-- the threads of a state that words hold
+pub count_is : (p : Prog) (ws : List ℕ) (s : St) → Holds p ws → Packs ws s → length s.threads ≡ length p
+count_is p ws s h k = let (t, x, e) = h in same_count ws s t k x ∙ e
+
+pub room : (p : Prog) (ws : List ℕ) (n : ℕ) → Holds p ws → n < length p → 3 + 3 * n < length ws
+room p ws n h l = let (s, k, e) = h in let w = length_pack ws s k in omega arith
+
+-- and after a move
+pub moved_holds : (p : Prog) (m : Move) (ws us : List ℕ) → Holds p ws → Stepped (λ s. move p s m) ws true us → Holds p us
+moved_holds p m ws us h g = let (s, k, e) = h in let (t, f, y, l) = g s k in (t, y, l ∙ e)
+
+pub some_words : (p : Prog) (ws : List ℕ) → Holds p ws → 0 < length ws
+some_words p ws h = let (s, k, e) = h in let w = length_pack ws s k in omega arith
+
+-- what a thread put into a copy of the words needs
+pub put_room : (ws us : List ℕ) (s : St) (n : ℕ) → Packs ws s → n < length s.threads → length us ≡ length ws → 3 + 3 * n < length us
+put_room ws us s n k l e = let w = length_pack ws s k in omega arith
+
+pub put_held : (ws us : List ℕ) (s : St) (n : ℕ) → Packs ws s → n < length s.threads → us ≡ ws → (t : St) × Packs us t × (n < length t.threads)
+put_held ws us s n k l e = (s, subst (λ (w : List ℕ). Packs w s) (sym e) k, l)
+
+pub missing : (p : Prog) (ws : List ℕ) (s : St) (n : ℕ) → Holds p ws → Packs ws s → length p ≤ n → nth s.threads n ≡ none
+missing p ws s n h k l = let e = count_is p ws s h k in nth_past s.threads n (omega arith)
+
+pub there : (p : Prog) (ws : List ℕ) (n : ℕ) → Holds p ws → n < length p → (a : At) × PacksAt (get_or ws (1 + 3 * n) 0) (get_or ws (2 + 3 * n) 0) (get_or ws (3 + 3 * n) 0) a
+there p ws n h l = let (s, k, e) = h in let (a, f, x) = thread_at ws s n k (omega arith) in (a, x)
 
 pub length_put : {A : Type 0} (xs : List A) (n : ℕ) (v : A) → length (put xs n v) ≡ length xs
 length_put xs n v = ap length (put_set xs n v) ∙ length-set xs n v
@@ -64,3 +108,11 @@ out_packs ws ws' s n b x v m h k l e =
 
 pub same_first : (w w' : Wait) (ws us us' : List Wait) → ws ≡ w ∷ us → ws ≡ w' ∷ us' → ws ≡ w ∷ us'
 same_first w w' ws us us' e f = let g : w ≡ w' = cc in cc
+
+-- nor under guards
+pub guarded_missing : (g : Guard) (p : Prog) (s : St) (n : ℕ) → nth s.threads n ≡ none → gmove g p s (next n) ≡ none
+guarded_missing g p s n e = ap (λ m. pick (free g s (next n)) m none) (next_missing p s n e) ∙ either (free g s (next n))
+  where
+    either : (b : Bool) → pick {A = Option St} b none none ≡ none
+    either true = refl
+    either false = refl

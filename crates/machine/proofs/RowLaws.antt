@@ -1,6 +1,6 @@
 -- A row as part of an array: one store more, the oldest gone, and what is read store by store.
 use Rattle.std.proofs.Common.{◌≡◌, ℕ, zero, suc, ◌+◌, ◌-◌, ◌<◌, ◌≤◌, eqb, List, [], ◌∷◌, ◌++◌, map, length, get_or, take, drop, set, sym, refl, ap, ◌∙◌, inl, inr, arith}
-use Rattle.std.proofs.lemmas.List.{get_or-drop, get_or-set_same, get_or-set_other, length-drop, length-set, drop_more, drop-set-add, take_more, take_more_set, map_push}
+use Rattle.std.proofs.lemmas.List.{get_or-drop, get_or-set_same, get_or-set_other, length-drop, length-set, drop_more, drop-set-add, take_more, take_more_set, map_more, map_push}
 use Rattle.std.proofs.lemmas.Bool.{cases_eq}
 use Rattle.model.specs.Code.{pick}
 use Rattle.model.specs.Machine.{Wait, newest}
@@ -18,10 +18,10 @@ row_last items begin k s h =
     ∙ map_push wait (take k (drop begin items)) (get_or items (begin + k) s)
 
 -- one store more is read
-pub newest_more : (items : List Store) (begin k : ℕ) (s : Store) (x m v : ℕ) → begin + k < length items → v ≡ newest (row items begin k) x m → newest (wait (get_or items (begin + k) s) ∷ []) x v ≡ newest (row items begin (k + 1)) x m
-newest_more items begin k s x m v h e =
-    ap (newest (wait (get_or items (begin + k) s) ∷ []) x) e
-    ∙ sym (ap (λ ws. newest ws x m) (row_last items begin k s h) ∙ newest_push (row items begin k) (wait (get_or items (begin + k) s)) x m)
+pub newest_more : (stores : List Store) (k : ℕ) (s : Store) (x m v : ℕ) → k < length stores → v ≡ newest (map wait (take k stores)) x m → newest (wait (get_or stores k s) ∷ []) x v ≡ newest (map wait (take (k + 1) stores)) x m
+newest_more stores k s x m v h e =
+    ap (newest (wait (get_or stores k s) ∷ []) x) e
+    ∙ sym (ap (λ ws. newest ws x m) (map_more wait stores k s h) ∙ newest_push (map wait (take k stores)) (wait (get_or stores k s)) x m)
 
 pub row_pushed : (items : List Store) (begin len : ℕ) (s : Store) → begin + len < length items → row (set items (begin + len) s) begin (len + 1) ≡ row items begin len ++ wait s ∷ []
 row_pushed items begin len s h =

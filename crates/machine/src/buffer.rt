@@ -1,5 +1,5 @@
 // The row of waiting stores at work: what its thread reads, one store more, the oldest gone.
-ghost use Rattle.std.specs.Prelude.{◌≡◌, ◌+◌, ◌<◌, List, [], ◌∷◌, ◌++◌};
+ghost use Rattle.std.specs.Prelude.{◌≡◌, ◌+◌, ◌<◌, List, [], ◌∷◌, ◌++◌, map};
 ghost use Rattle.model.specs.Machine.{Wait, newest};
 ghost use Rattle.machine.specs.Stores.{wait};
 ghost use Rattle.machine.specs.Meaning.{waits};
@@ -12,7 +12,7 @@ use program::instructions::Place;
 fn over(s: Store, place: Place, value: u32) -> u32
     ensures { result ≡ newest (wait s ∷ []) place.0 value }
 {
-    if s.place.0 == place.0 { s.value } else { value }
+    if s.place == place { s.value } else { value }
 }
 
 impl Row {
@@ -31,28 +31,22 @@ impl Row {
         }
     }
 
+    // The stores that wait, the oldest first.
+    pub fn stores(&self) -> &[Store]
+        ensures { map wait result.now ≡ waits self.now }
+    {
+        &self.items[self.begin..self.begin + self.len]
+    }
+
     // The number of the newest store to the place, else memory's.
     pub fn newest(&self, place: Place, memory: u32) -> u32
         ensures { result ≡ newest (waits self.now) place.0 memory }
     {
         let mut value = memory;
-        for k in 0..self.len {
-            value = over(self.items[self.begin + k], place, value);
+        for s in self.stores() {
+            value = over(*s, place, value);
         }
         value
-    }
-
-    // The same row.
-    pub fn copied(&self) -> Row
-        ensures same { waits result ≡ waits self.now }
-        ensures begin { result.begin ≡ self.now.begin }
-        ensures len { result.len ≡ self.now.len }
-    {
-        Row {
-            items: self.items,
-            begin: self.begin,
-            len: self.len,
-        }
     }
 
     // The row with one store more, the newest.

@@ -11,6 +11,7 @@ pub mod moves;
 pub mod packed;
 pub mod rows;
 pub mod standing;
+pub mod states;
 pub mod step;
 pub mod stores;
 pub mod threads;

@@ -5,7 +5,7 @@ ghost use Rattle.machine.specs.Stores.{AllSmall};
 
 use crate::stores::Store;
 
-#[derive(Drop)]
+#[derive(Clone, Copy)]
 pub struct Row {
     pub items: [Store; 8],
     pub begin: usize,

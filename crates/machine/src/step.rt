@@ -1,19 +1,33 @@
 // One instruction of a thread.
-ghost use Rattle.std.specs.Prelude.{◌≡◌, ◌<◌, T, [], ◌∷◌, ◌++◌};
+ghost use Rattle.std.specs.Prelude.{◌≡◌, ◌+◌, ◌<◌, ◌≤◌, T};
 ghost use Rattle.lent.specs.Nibbles.{nibbles};
 ghost use Rattle.model.specs.Code.{ok_i, put};
 ghost use Rattle.model.specs.Machine.{done};
 ghost use Rattle.program.specs.Instructions.{instruction};
-ghost use Rattle.machine.specs.Stores.{wait};
-ghost use Rattle.machine.specs.Meaning.{at};
+ghost use Rattle.machine.specs.Meaning.{at, waits};
 ghost use Rattle.machine.specs.Post.{Did};
 
+use crate::rows::Row;
 use crate::stores::Store;
 use crate::threads::ThreadState;
 use lent::nibbles::{nibble, with_nibble};
 use program::instructions::{Instruction, Register};
 
 impl ThreadState {
+    // The next instruction done, and then these registers and this row.
+    fn done(&self, regs: u32, row: Row) -> ThreadState
+        requires more { self.now.pc < 8 }
+        requires four { regs < 65536 }
+        requires held { row.begin + row.len ≤ self.now.pc + 1 }
+        ensures { at result ≡ done (at self.now) (nibbles 4 regs) (waits row) }
+    {
+        ThreadState {
+            pc: self.pc + 1,
+            regs,
+            row,
+        }
+    }
+
     // The next instruction done, and with it a number put into a register.
     fn with_register(&self, r: Register, value: u32) -> ThreadState
         requires more { self.now.pc < 8 }
@@ -21,37 +35,7 @@ impl ThreadState {
         requires value { value < 16 }
         ensures { at result ≡ done (at self.now) (put (at self.now).regs r.0 value) (at self.now).waits }
     {
-        ThreadState {
-            pc: self.pc + 1,
-            regs: with_nibble(self.regs, r.0, value),
-            row: self.row.copied(),
-        }
-    }
-
-    // The next instruction done, and with it a store put into the row.
-    fn with_store(&self, s: Store) -> ThreadState
-        requires more { self.now.pc < 8 }
-        requires place { s.place.0 < 8 }
-        requires value { s.value < 16 }
-        ensures { at result ≡ done (at self.now) (at self.now).regs ((at self.now).waits ++ wait s ∷ []) }
-    {
-        ThreadState {
-            pc: self.pc + 1,
-            regs: self.regs,
-            row: self.row.pushed(s),
-        }
-    }
-
-    // The next instruction done, and nothing else.
-    fn passed(&self) -> ThreadState
-        requires { self.now.pc < 8 }
-        ensures { at result ≡ done (at self.now) (at self.now).regs (at self.now).waits }
-    {
-        ThreadState {
-            pc: self.pc + 1,
-            regs: self.regs,
-            row: self.row.copied(),
-        }
+        self.done(with_nibble(self.regs, r.0, value), self.row)
     }
 
     // The thread with the instruction done, where memory is as given; none for a fence while a store waits.
@@ -70,13 +54,16 @@ impl ThreadState {
                 let value = self.row.newest(x, nibble(memory, x.0));
                 Some(self.with_register(r, value))
             }
-            Instruction::Store(x, r) => Some(self.with_store(Store {
-                place: x,
-                value: nibble(self.regs, r.0),
-            })),
+            Instruction::Store(x, r) => {
+                let row = self.row.pushed(Store {
+                    place: x,
+                    value: nibble(self.regs, r.0),
+                });
+                Some(self.done(self.regs, row))
+            }
             Instruction::Fence => {
                 if self.row.len == 0 {
-                    Some(self.passed())
+                    Some(self.done(self.regs, self.row))
                 } else {
                     None
                 }

@@ -1,7 +1,7 @@
 // A store that waits.
 use program::instructions::Place;
 
-#[derive(Clone, Copy)]
+#[derive(Clone, Copy, PartialEq, Eq, Debug)]
 pub struct Store {
     pub place: Place,
     pub value: u32,

@@ -4,7 +4,7 @@ ghost use Rattle.std.specs.Prelude.{◌+◌, ◌<◌, ◌≤◌};
 
 use crate::rows::Row;
 
-#[derive(Drop)]
+#[derive(Clone, Copy)]
 pub struct ThreadState {
     pub pc: usize,
     pub regs: u32,

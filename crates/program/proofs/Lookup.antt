@@ -24,7 +24,7 @@ nth_map f [] n d h = absurd (omega arith)
 nth_map f (x ∷ xs) zero d h = refl
 nth_map f (x ∷ xs) (suc n) d h = nth_map f xs n d (omega arith)
 
-ok_nth : (t : Thread) (k : ℕ) (i : I) → T (ok_t t) → nth t k ≡ some i → T (ok_i i)
+pub ok_nth : (t : Thread) (k : ℕ) (i : I) → T (ok_t t) → nth t k ≡ some i → T (ok_i i)
 ok_nth [] k i h e = let z : ◌≡◌ {A = ℕ} 0 1 = cc in absurd (omega arith)
 ok_nth (j ∷ t) zero i h e = let f : j ≡ i = cc in subst (λ (x : I). T (ok_i x)) f (and_left (ok_i j) (ok_t t) h)
 ok_nth (j ∷ t) (suc k) i h e = ok_nth t k i (and_right (ok_i j) (ok_t t) h) e

@@ -39,9 +39,12 @@ ok_all (t ∷ ts) =
     and_both (leb (length (thread t)) 8) (ok_t (thread t) && ok_ts (map thread ts)) (le→leb (length (thread t)) 8 few)
     (and_both (ok_t (thread t)) (ok_ts (map thread ts)) t.fine (ok_all ts))
 
+pub length_program : (p : Program) → length (program p) ≡ length p.threads.items
+length_program p = length-map p.threads.items thread
+
 pub program_ok : (p : Program) → T (ok (program p))
 program_ok p =
-    let e = length-map p.threads.items thread in
+    let e = length_program p in
     let n = length (program p) in
     and_both (leb 1 n) (leb n 4 && ok_ts (program p)) (le→leb 1 n (omega arith))
     (and_both (leb n 4) (ok_ts (program p)) (le→leb n 4 (omega arith)) (ok_all p.threads.items))

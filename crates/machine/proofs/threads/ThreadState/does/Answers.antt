@@ -1,6 +1,6 @@
 use Rattle.std.proofs.Common.{ap, ◌∙◌, arith, rules}
 use Rattle.lent.specs.Nibbles.{nibbles}
-use Rattle.model.specs.Machine.{does}
+use Rattle.model.specs.Machine.{does, done}
 use Rattle.program.specs.declared.instructions.Instruction.{Instruction}
 use Rattle.program.specs.Instructions.{instruction}
 use Rattle.machine.specs.Meaning.{at}
@@ -17,9 +17,6 @@ with_register-requires-in-Load c =
     let s = read_small q.items q.begin q.len c.in-Load.x.0 c.nibble-in-Load.result q.small v in
     let e = c.newest-value.ensures in
     record { more = c.requires.more; register = search rules; value = omega arith }
-
-pub with_store-requires : goal.with_store-requires
-with_store-requires c = record { more = c.requires.more; place = search rules; value = c.nibble-in-Store.ensures.small }
 
 pub returns-in-Add : goal.returns-in-Add
 returns-in-Add c =
@@ -46,9 +43,9 @@ returns-in-Store c =
     let t = c.args.self.now in
     let m = nibbles 8 c.args.memory in
     ap (λ (i : Instruction). does m (at t) (instruction i)) c.in-Store.is
-    ∙ did_store m (at t) (at c.with_store.result) c.in-Store.x.0 c.in-Store.r.0 c.nibble-in-Store.result
+    ∙ did_store m (at t) (at c.done.result) c.in-Store.x.0 c.in-Store.r.0 c.nibble-in-Store.result
     (field_read 4 t.regs c.in-Store.r.0 c.nibble-in-Store.result (c.nibble-in-Store.ensures.value 4 (search rules)))
-    c.with_store.ensures
+    (c.done.ensures ∙ ap (λ ws. done (at t) (at t).regs ws) c.pushed-row.ensures.more)
 
 pub returns-else-self-eq0 : goal.returns-else-self-eq0
 returns-else-self-eq0 c =
