@@ -2,14 +2,14 @@
 use Rattle.std.proofs.Common.{◌≡◌, ℕ, zero, suc, ◌+◌, ◌*◌, ◌/◌, ◌%◌, ◌^◌, ◌<◌, ◌≤◌, List, [], ◌∷◌, ◌++◌, map, length, get_or, take, drop, set, sym, refl, ap, ◌∙◌, mul-le-mul_left, add-one, arith}
 use lib.Bits.{bit_and, bit_or, or_shifted_r}
 use Rattle.std.proofs.lemmas.Nat.{pow-add, and_mask, shl_whole}
-use Rattle.std.proofs.lemmas.List.{length-drop, length-take-le, length-map, map_push}
+use Rattle.std.proofs.lemmas.List.{length-drop, length-take-le, length-map, map_more, map_push}
 use Rattle.lent.specs.Nibbles.{nibbles, number, AllBelow}
 use Rattle.model.specs.Machine.{Wait, At}
 use Rattle.machine.specs.declared.stores.Store.{Store}
 use Rattle.machine.specs.Stores.{wait, row}
 use Rattle.lent.proofs.Fields.{nibbles_add, nibbles_number, number_below, number_nibbles}
 use Rattle.machine.specs.Packed.{values, places, pairs, first_word, unpack_at, PacksAt}
-use Rattle.machine.proofs.RowLaws.{row_last, row_pushed}
+use Rattle.machine.proofs.RowLaws.{row_pushed}
 
 -- one more store read off the two words
 pairs_last : (k v x : ℕ) → pairs (suc k) v x ≡ pairs k v x ++ record { place = get_or (nibbles (suc k) x) k 0 % 8; val = get_or (nibbles (suc k) v) k 0 } ∷ []
@@ -65,15 +65,15 @@ length_row items begin k h =
     length-map (take k (drop begin items)) wait ∙ length-take-le k (drop begin items) (omega arith)
 
 -- one more store packed, its number or its place
-pub packed_more : (f : Wait → ℕ) (items : List Store) (begin k v : ℕ) (s : Store) → begin + k < length items → k < 8 → f (wait (get_or items (begin + k) s)) < 16 → v < 2 ^ (4 * k) → v ≡ number (map f (row items begin k)) → bit_or v (f (wait (get_or items (begin + k) s)) * 2 ^ (4 * k) % 2 ^ 32) ≡ number (map f (row items begin (k + 1)))
-packed_more f items begin k v s h few small b e =
-    let d = f (wait (get_or items (begin + k) s)) in
-    let ds = map f (row items begin k) in
-    let l : length ds ≡ k = length-map (row items begin k) f ∙ length_row items begin k (omega arith) in
+pub packed_more : (f : Wait → ℕ) (ss : List Store) (k v : ℕ) (s : Store) → k < length ss → k < 8 → f (wait (get_or ss k s)) < 16 → v < 2 ^ (4 * k) → v ≡ number (map f (map wait (take k ss))) → bit_or v (f (wait (get_or ss k s)) * 2 ^ (4 * k) % 2 ^ 32) ≡ number (map f (map wait (take (k + 1) ss)))
+packed_more f ss k v s h few small b e =
+    let d = f (wait (get_or ss k s)) in
+    let ws = map wait (take k ss) in
+    let l : length (map f ws) ≡ k = length-map ws f ∙ length-map (take k ss) wait ∙ length-take-le k ss (omega arith) in
     shifted_or k v d few b small
     ∙ ap (λ z. z + 2 ^ (4 * k) * d) e
-    ∙ ap (λ n. number ds + 2 ^ (4 * n) * d) (sym l)
-    ∙ sym (ap number (ap (map f) (row_last items begin k s h) ∙ map_push f (row items begin k) (wait (get_or items (begin + k) s))) ∙ number_push ds d)
+    ∙ ap (λ n. number (map f ws) + 2 ^ (4 * n) * d) (sym l)
+    ∙ sym (ap number (ap (map f) (map_more wait ss k s h) ∙ map_push f ws (wait (get_or ss k s))) ∙ number_push (map f ws) d)
 
 -- the first word of a thread
 pub word_is : (regs pc len : ℕ) → regs < 65536 → pc ≤ 8 → len ≤ 8 → bit_or (bit_or regs (pc * 65536 % 2 ^ 32)) (len * 1048576 % 2 ^ 32) ≡ number (nibbles 4 regs) + 65536 * pc + 1048576 * len

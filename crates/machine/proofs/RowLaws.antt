@@ -1,6 +1,6 @@
 -- A row as part of an array: one store more, the oldest gone, and what is read store by store.
-use Rattle.std.proofs.Common.{◌≡◌, ℕ, zero, suc, ◌+◌, ◌-◌, ◌<◌, ◌≤◌, eqb, List, [], ◌∷◌, ◌++◌, map, length, get_or, take, drop, set, sym, refl, ap, ◌∙◌, inl, inr, arith}
-use Rattle.std.proofs.lemmas.List.{get_or-drop, get_or-set_same, get_or-set_other, length-drop, length-set, drop_more, drop-set-add, take_more, take_more_set, map_more, map_push}
+use Rattle.std.proofs.Common.{◌≡◌, ℕ, zero, suc, ◌+◌, ◌-◌, ◌<◌, ◌≤◌, eqb, List, [], ◌∷◌, ◌++◌, map, length, get_or, take, drop, set, sym, refl, ap, ◌∙◌, subst, inl, inr, arith}
+use Rattle.std.proofs.lemmas.List.{get_or-drop, get_or-take, get_or-set_same, get_or-set_other, length-drop, length-take, length-set, drop_more, drop-set-add, take_more_set, map_more, map_push}
 use Rattle.std.proofs.lemmas.Bool.{cases_eq}
 use Rattle.model.specs.Code.{pick}
 use Rattle.model.specs.Machine.{Wait, newest}
@@ -10,12 +10,6 @@ use Rattle.machine.specs.Stores.{wait, row, AllSmall}
 newest_push : (ws : List Wait) (w : Wait) (x v : ℕ) → newest (ws ++ w ∷ []) x v ≡ newest (w ∷ []) x (newest ws x v)
 newest_push [] w x v = refl
 newest_push (u ∷ ws) w x v = newest_push ws w x (pick (eqb u.place x) u.val v)
-
-pub row_last : (items : List Store) (begin k : ℕ) (s : Store) → begin + k < length items → row items begin (k + 1) ≡ row items begin k ++ wait (get_or items (begin + k) s) ∷ []
-row_last items begin k s h =
-    let l = length-drop begin items in
-    ap (map wait) (take_more (drop begin items) k s (omega arith) ∙ ap (λ (z : Store). take k (drop begin items) ++ z ∷ []) (get_or-drop begin items k s))
-    ∙ map_push wait (take k (drop begin items)) (get_or items (begin + k) s)
 
 -- one store more is read
 pub newest_more : (stores : List Store) (k : ℕ) (s : Store) (x m v : ℕ) → k < length stores → v ≡ newest (map wait (take k stores)) x m → newest (wait (get_or stores k s) ∷ []) x v ≡ newest (map wait (take (k + 1) stores)) x m
@@ -51,3 +45,11 @@ row_popped items begin zero s h u = absurd (omega arith)
 row_popped items begin (suc len) s h u =
     ap (λ xs. map wait (take (suc len) xs)) (drop_more items begin s (omega arith))
     ∙ ap (λ n. wait (get_or items begin s) ∷ map wait (take n (drop (begin + 1) items))) (omega arith)
+
+pub small_part : (items : List Store) (begin len : ℕ) → AllSmall items → AllSmall (take len (drop begin items))
+small_part items begin len small k s h =
+    let l = length-take len (drop begin items) in
+    let d = length-drop begin items in
+    let e : get_or (take len (drop begin items)) k s ≡ get_or items (begin + k) s = get_or-take len (drop begin items) k s (omega arith) ∙ get_or-drop begin items k s in
+    let r = small (begin + k) s (omega arith) in
+    (subst (λ (z : Store). z.place.0 < 8) (sym e) r.0, subst (λ (z : Store). z.value < 16) (sym e) r.1)

@@ -1,7 +1,7 @@
 // The row of waiting stores at work: what its thread reads, one store more, the oldest gone.
-ghost use Rattle.std.specs.Prelude.{◌≡◌, ◌+◌, ◌<◌, List, [], ◌∷◌, ◌++◌, map};
+ghost use Rattle.std.specs.Prelude.{◌≡◌, ◌+◌, ◌<◌, ◌≤◌, List, [], ◌∷◌, ◌++◌, map, length};
 ghost use Rattle.model.specs.Machine.{Wait, newest};
-ghost use Rattle.machine.specs.Stores.{wait};
+ghost use Rattle.machine.specs.Stores.{wait, AllSmall};
 ghost use Rattle.machine.specs.Meaning.{waits};
 
 use crate::rows::Row;
@@ -33,7 +33,9 @@ impl Row {
 
     // The stores that wait, the oldest first.
     pub fn stores(&self) -> &[Store]
-        ensures { map wait result.now ≡ waits self.now }
+        ensures are { map wait result.now ≡ waits self.now }
+        ensures few { length result.now ≤ 8 }
+        ensures small { AllSmall result.now }
     {
         &self.items[self.begin..self.begin + self.len]
     }

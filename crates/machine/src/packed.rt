@@ -55,8 +55,7 @@ fn pack_row(row: &Row) -> (u32, u32)
 {
     let mut values = 0;
     let mut places = 0;
-    for k in 0..row.len {
-        let s = row.items[row.begin + k];
+    for (k, s) in row.stores().iter().enumerate() {
         let shift = 4 * (k as u32);
         values |= s.value << shift;
         places |= s.place.0 << shift;

@@ -1,4 +1,4 @@
-use Rattle.std.proofs.Common.{length, take, map, ap, ◌∙◌, arith}
+use Rattle.std.proofs.Common.{map, ap, ◌∙◌}
 use Rattle.std.proofs.lemmas.List.{take_all}
 use Rattle.model.specs.Machine.{newest}
 use Rattle.machine.specs.Stores.{wait}
@@ -12,4 +12,4 @@ pub returns : goal.returns
 returns c =
     c.loop-s.invariant
     ∙ ap (λ ss. newest (map wait ss) c.args.place.0 c.args.memory) (take_all c.loop-s.s-index c.stores-s-items.result.now c.loop-s-test.false)
-    ∙ ap (λ ws. newest ws c.args.place.0 c.args.memory) c.stores-s-items.ensures
+    ∙ ap (λ ws. newest ws c.args.place.0 c.args.memory) c.stores-s-items.ensures.are

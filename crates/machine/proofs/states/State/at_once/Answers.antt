@@ -1,4 +1,4 @@
-use Rattle.std.proofs.Common.{ℕ, List, sym, ◌∙◌, subst}
+use Rattle.std.proofs.Common.{ℕ, List, sym, subst}
 use Rattle.model.specs.Machine.{St, next, out, move}
 use Rattle.program.specs.Instructions.{instruction}
 use Rattle.program.specs.Meaning.{program}

@@ -8,7 +8,7 @@ use Rattle.machine.specs.Stores.{wait}
 use Rattle.machine.specs.Meaning.{at, waits}
 use Rattle.machine.specs.Packed.{Packs}
 use Rattle.machine.proofs.HeldState.{held}
-use Rattle.machine.proofs.MoveLaws.{some_words, put_room, put_held, out_missing, out_packs, same_first, out_some, length_put}
+use Rattle.machine.proofs.MoveLaws.{some_words, put_room, put_held, out_packs, same_first, out_some, length_put}
 use Rattle.machine.proofs.states.State.out.Goals as goal
 
 pub put_thread-requires : goal.put_thread-requires

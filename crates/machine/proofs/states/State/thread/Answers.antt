@@ -1,4 +1,4 @@
-use Rattle.std.proofs.Common.{◌≡◌, ◌+◌, ◌*◌, ℕ, ◌<◌, ◌≤◌, length, arith}
+use Rattle.std.proofs.Common.{◌≡◌, ◌+◌, ◌*◌, ℕ, ◌<◌, length, arith}
 use Rattle.program.specs.Meaning.{program}
 use Rattle.machine.specs.declared.states.State.{State}
 use Rattle.machine.proofs.HeldState.{held}

@@ -1,4 +1,4 @@
-use Rattle.std.proofs.Common.{ℕ, List, get_or, subst}
+use Rattle.std.proofs.Common.{ℕ, List, subst}
 use Rattle.program.specs.Meaning.{program}
 use Rattle.program.specs.Instructions.{instruction}
 use Rattle.machine.specs.Meaning.{at}
