@@ -4,6 +4,7 @@ use Rattle.std.proofs.Common.{Some, None}
 use Rattle.std.proofs.Common as code
 use mathlib.Core.Option.{Option, some, none}
 use Rattle.std.proofs.lemmas.List.{length-set}
+use Rattle.std.proofs.lemmas.Bool.{false≢true}
 use Rattle.lent.specs.Nibbles.{nibbles, number}
 use Rattle.lent.proofs.Fields.{nibbles_number, number_nibbles, nibbles_below, length_nibbles}
 use Rattle.model.specs.Code.{pick, opt, nth, put, I, Prog}
@@ -77,9 +78,10 @@ count_is p ws s h k = let (t, x, e) = h in same_count ws s t k x ∙ e
 pub room : (p : Prog) (ws : List ℕ) (n : ℕ) → Holds p ws → n < length p → 3 + 3 * n < length ws
 room p ws n h l = let (s, k, e) = h in let w = length_pack ws s k in omega arith
 
--- and after a move
-pub moved_holds : (p : Prog) (m : Move) (ws us : List ℕ) → Holds p ws → Stepped (λ s. move p s m) ws true us → Holds p us
-moved_holds p m ws us h g = let (s, k, e) = h in let (t, f, y, l) = g s k in (t, y, l ∙ e)
+-- and after a step
+pub stepped_holds : (p : Prog) (step : St → Option St) (ws us : List ℕ) (r : Bool) → Holds p ws → Stepped step ws r us → r ≡ true → Holds p us
+stepped_holds p step ws us true h g e = let (s, k, l) = h in let (t, f, y, m) = g s k in (t, y, m ∙ l)
+stepped_holds p step ws us false h g e = absurd (false≢true e)
 
 pub some_words : (p : Prog) (ws : List ℕ) → Holds p ws → 0 < length ws
 some_words p ws h = let (s, k, e) = h in let w = length_pack ws s k in omega arith

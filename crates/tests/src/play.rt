@@ -3,9 +3,7 @@ ghost use Rattle.std.specs.Prelude.{◌≡◌, ◌+◌, ◌*◌, true, length};
 ghost use Rattle.program.specs.Meaning.{program};
 ghost use Rattle.machine.specs.Post.{Holds};
 
-use machine::at_once::at_once;
-use machine::guarded::guarded;
-use machine::moves::{next, out};
+use machine::states::State;
 use program::threads::Program;
 
 #[derive(Clone, Copy)]
@@ -21,30 +19,28 @@ pub enum Turn {
 }
 
 // One move from a state into `to`; false where it can't be made, or the program has no such thread.
-fn make(p: &Program, turn: Turn, from: &[u32], to: &mut [u32]) -> bool
-    requires long { length from.now ≡ 1 + 3 * p.now.count }
-    requires same { length to.old ≡ length from.now }
-    requires holds { Holds (program p.now) from.now }
-    ensures { result ≡ true → Holds (program p.now) to.new }
+fn make(state: &State<'_>, turn: Turn, to: &mut [u32]) -> bool
+    requires { length to.old ≡ length state.now.words.now }
+    ensures { result ≡ true → Holds (program state.now.p.now) to.new }
 {
     match turn {
-        Turn::Next(n) if n < p.count => next(p, n, from, to),
-        Turn::Out(n) if n < p.count => out(p, n, from, to),
-        Turn::AtOnce(n) if n < p.count => at_once(p, n, from, to),
-        Turn::Guarded(n, guard) if n < p.count => guarded(p, n, guard, from, to),
-        Turn::Next(_) | Turn::Out(_) | Turn::AtOnce(_) | Turn::Guarded(_, _) => false,
+        Turn::Next(n) => state.next(n, to),
+        Turn::Out(n) => state.out(n, to),
+        Turn::AtOnce(n) => state.at_once(n, to),
+        Turn::Guarded(n, guard) => state.guarded(n, guard, to),
     }
 }
 
 // Makes the moves up to the first that can't be made, and answers how many. The state that they lead to is left in
 // `state`; `spare` is of use on the way only.
 pub fn play(p: &Program, turns: &[Turn], state: &mut [u32], spare: &mut [u32]) -> usize
-    requires long { length state.old ≡ 1 + 3 * p.now.count }
+    requires long { length state.old ≡ 1 + 3 * length (program p.now) }
     requires same { length spare.old ≡ length state.old }
 {
     state.fill(0);
-    for i in 0..turns.len() {
-        if !make(p, turns[i], state, spare) {
+    for (i, turn) in turns.iter().enumerate() {
+        let here = State { p, words: state };
+        if !make(&here, *turn, spare) {
             return i;
         }
         state.copy_from_slice(spare);

@@ -35,7 +35,7 @@ fn check_run(rt: &impl Abort, heap: Global, i: usize, run: Run<'_>) -> Result<()
     let Some(p) = from_words(words.as_slice()) else {
         return Err(Fail::new("refused"));
     };
-    let width = 1 + 3 * p.count;
+    let width = 1 + 3 * p.count();
     let mut first = [0; 13];
     let mut second = [0; 13];
     let state = &mut first[0..width];

@@ -1,27 +1,15 @@
-use Rattle.std.proofs.Common.{arith}
-use Rattle.program.proofs.WriteWords.{length_program}
+use Rattle.machine.proofs.HeldState.{held}
+use Rattle.machine.proofs.MoveLaws.{stepped_holds}
 use Rattle.tests.proofs.play.make.Goals as goal
 
-pub next-requires : goal.next-requires
-next-requires c =
-    let l = length_program c.args.p.now in
-    let w = c.requires.long in
-    record { same = c.requires.same; room = omega arith; thread = omega arith; holds = c.requires.holds }
+pub returns-in-Next : goal.returns-in-Next
+returns-in-Next c = stepped_holds _ _ _ _ c.next.result (held _ _ c.args.state.now.held) c.next.ensures
 
-pub out-requires : goal.out-requires
-out-requires c =
-    let l = length_program c.args.p.now in
-    let w = c.requires.long in
-    record { same = c.requires.same; room = omega arith; thread = omega arith; holds = c.requires.holds }
+pub returns-in-Out : goal.returns-in-Out
+returns-in-Out c = stepped_holds _ _ _ _ c.out.result (held _ _ c.args.state.now.held) c.out.ensures
 
-pub at_once-requires : goal.at_once-requires
-at_once-requires c =
-    let l = length_program c.args.p.now in
-    let w = c.requires.long in
-    record { same = c.requires.same; room = omega arith; thread = omega arith; holds = c.requires.holds }
+pub returns-in-AtOnce : goal.returns-in-AtOnce
+returns-in-AtOnce c = stepped_holds _ _ _ _ c.at_once.result (held _ _ c.args.state.now.held) c.at_once.ensures
 
-pub guarded-requires : goal.guarded-requires
-guarded-requires c =
-    let l = length_program c.args.p.now in
-    let w = c.requires.long in
-    record { same = c.requires.same; room = omega arith; thread = omega arith; holds = c.requires.holds }
+pub returns-in-Guarded : goal.returns-in-Guarded
+returns-in-Guarded c = stepped_holds _ _ _ _ c.guarded.result (held _ _ c.args.state.now.held) c.guarded.ensures

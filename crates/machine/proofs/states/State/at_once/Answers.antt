@@ -1,11 +1,11 @@
-use Rattle.std.proofs.Common.{ℕ, List, sym, subst}
+use Rattle.std.proofs.Common.{ℕ, true, List, sym, refl, subst}
 use Rattle.model.specs.Machine.{St, next, out, move}
 use Rattle.program.specs.Instructions.{instruction}
 use Rattle.program.specs.Meaning.{program}
 use Rattle.machine.specs.Post.{Holds, Stepped}
 use Rattle.machine.proofs.FirstWord.{few_words}
 use Rattle.machine.proofs.HeldState.{held}
-use Rattle.machine.proofs.MoveLaws.{moved_holds}
+use Rattle.machine.proofs.MoveLaws.{stepped_holds}
 use Rattle.machine.proofs.StepLaws.{once_none, once_done, once_stored}
 use Rattle.machine.proofs.states.State.at_once.Goals as goal
 
@@ -26,7 +26,7 @@ pub invariant_of-stored : goal.invariant_of-stored
 invariant_of-stored c =
     let st = c.args.self.now in
     let p = program st.p.now in
-    record { held = ∣ subst (Holds p) (sym c.copy_from_slice.ensures.after) (moved_holds p (next c.args.n) st.words.now c.next.new.to (held _ _ st.held) c.if-not-next.ensures) ∣₁ }
+    record { held = ∣ subst (Holds p) (sym c.copy_from_slice.ensures.after) (stepped_holds p _ st.words.now c.next.new.to true (held _ _ st.held) c.if-not-next.ensures refl) ∣₁ }
 
 pub returns : goal.returns
 returns c =
