@@ -1,5 +1,5 @@
 -- Going along edges of one node, one after the other.
-use Rattle.std.proofs.Common.{◌≡◌, ℕ, zero, suc, ◌+◌, ◌<◌, ◌≤◌, ◌⊎◌, List, length, sym, refl, ap, ◌∙◌, inl, inr, arith}
+use Rattle.std.proofs.Common.{◌≡◌, ℕ, suc, ◌+◌, ◌<◌, ◌≤◌, ◌⊎◌, List, length, sym, refl, ap, ◌∙◌, inl, inr, arith}
 use Rattle.std.proofs.lemmas.Bool.{cases_lt}
 use Rattle.graph.specs.Rules.{Ahead}
 use Rattle.graph.specs.Walks.{Leads}
@@ -28,17 +28,28 @@ grown_then one two both i c f c' f' c'' f'' l r split g h =
           (b.0 ∙ a.0, b.1 ∙ a.1);
     }
 
--- the edges of the moves below m, and then of m
-pub leads_more : (next : ℕ → ℕ → ℕ) (m i : ℕ) (c f c' f' c'' f'' : List ℕ) (t : ℕ) → t ≡ next i m → Grown (Leads next m i) i c f c' f' → Grown (λ k. t ≡ suc k) i c' f' c'' f'' → Grown (Leads next (m + 1) i) i c f c'' f''
+-- the last move, if an edge is none of the moves before it
+last : (next : ℕ → ℕ → ℕ) (m i k : ℕ) (e : Leads next (m + 1) i k) → m ≤ e.0 → next i m ≡ suc k
+last next m i k e l = let z : m ≡ e.0 = let h = e.1 in omega arith in ap (next i) z ∙ e.2
+
+-- the edges of the moves below m, and then that of m, which leads to t
+pub leads_more : (next : ℕ → ℕ → ℕ) (m i : ℕ) (c f c' f' c'' f'' : List ℕ) (t : ℕ) → suc t ≡ next i m → Grown (Leads next m i) i c f c' f' → Grown (λ k. t ≡ k) i c' f' c'' f'' → Grown (Leads next (m + 1) i) i c f c'' f''
 leads_more next m i c f c' f' c'' f'' t is g h =
-    grown_then (Leads next m i) (λ k. t ≡ suc k) (Leads next (m + 1) i) i c f c' f' c'' f''
+    grown_then (Leads next m i) (λ k. t ≡ k) (Leads next (m + 1) i) i c f c' f' c'' f''
     (λ k e. (e.0, let l = e.1 in omega arith, e.2))
-    (λ k e. (m, omega arith, sym is ∙ e))
-    (λ k e. elim (cases_lt e.0 m) [ inl l ↦ inl (e.0, l, e.2) | inr l ↦ inr (is ∙ last k e l) ])
+    (λ k e. (m, omega arith, sym is ∙ ap suc e))
+    (λ k e. elim (cases_lt e.0 m) [ inl l ↦ inl (e.0, l, e.2) | inr l ↦ inr (let q = last next m i k e l in omega arith) ])
     g h
-  where
-    last : (k : ℕ) (e : Leads next (m + 1) i k) → m ≤ e.0 → next i m ≡ suc k
-    last k e l = let z : m ≡ e.0 = let h = e.1 in omega arith in ap (next i) z ∙ e.2
+
+-- the edges of the moves below m, where m has none
+pub leads_same : (next : ℕ → ℕ → ℕ) (m i : ℕ) (c f c' f' : List ℕ) → 0 ≡ next i m → Grown (Leads next m i) i c f c' f' → Grown (Leads next (m + 1) i) i c f c' f'
+leads_same next m i c f c' f' is g =
+    record {
+      marks = g.marks;
+      hit = λ k e. elim (cases_lt e.0 m) [ inl l ↦ g.hit k (e.0, l, e.2) | inr l ↦ absurd (let q = last next m i k e l in omega arith) ];
+      kept = λ k h. elim (g.kept k h) [ inl a ↦ inl a | inr a ↦ inr ((a.0.0, let l = a.0.1 in omega arith, a.0.2), a.1) ];
+      same = λ k not. g.same k (λ l. not (l.0, let h = l.1 in omega arith, l.2));
+    }
 
 -- one node of n
 pub steps_of : (can : ℕ → ℕ → Type 0) (next : ℕ → ℕ → ℕ) (moves n i : ℕ) (c f : List ℕ) → Ahead can next moves n → i < n → n ≤ length c → n ≤ length f → Steps (can i) (next i) moves i c f
@@ -49,20 +60,6 @@ steps_of can next moves n i c f a h p q =
       in_cost = λ m j l e. let w = a.within i m j h l e in omega arith;
       in_from = λ m j l e. let w = a.within i m j h l e in omega arith;
     }
-
--- one move m of a node, which leads to t
-module _ (can : ℕ → Type 0) (next : ℕ → ℕ) (moves i : ℕ) (c f : List ℕ) (s : Steps can next moves i c f) (m : ℕ) (h : m < moves) where
-  pub ahead_of : (t : ℕ) → t ≡ next m → 0 < t → i < t
-  ahead_of zero e p = omega arith
-  ahead_of (suc j) e p = let u = s.up m j h (sym e) in omega arith
-
-  pub within_cost : (t : ℕ) → t ≡ next m → t ≤ length c
-  within_cost zero e = omega arith
-  within_cost (suc j) e = let u = s.in_cost m j h (sym e) in omega arith
-
-  pub within_from : (t : ℕ) → t ≡ next m → t ≤ length f
-  within_from zero e = omega arith
-  within_from (suc j) e = let u = s.in_from m j h (sym e) in omega arith
 
 -- all moves of a node that was come to
 pub leads_all : (next : ℕ → ℕ → ℕ) (moves m i : ℕ) (c f c' f' : List ℕ) → m ≡ moves → Marked c i → Grown (Leads next m i) i c f c' f' → Grown (λ k. Marked c i × Leads next moves i k) i c f c' f'

@@ -1,5 +1,11 @@
 -- Where moves lead: a node and a move to 0 where there is no edge that may be taken, else to the node come to, plus 1.
-use Rattle.std.specs.Prelude.{◌≡◌, ℕ, zero, suc, ◌+◌, ◌*◌, ◌^◌, ◌<◌, List, length, slice_index}
+use Rattle.std.specs.Prelude.{◌≡◌, ℕ, zero, suc, ◌+◌, ◌*◌, ◌^◌, ◌<◌, List, length, slice_index, Some, None, Option}
+use Rattle.graph.specs.declared.rules.Edge.{Edge}
+
+-- an edge, or none, as the words have it
+abbrev pub word_of : Option Edge → ℕ
+word_of None = 0
+word_of (Some e) = suc e.target
 
 -- all kept edges: at i * width + m stands where move m leads from node i
 abbrev pub kept : List ℕ → ℕ → ℕ → ℕ → ℕ

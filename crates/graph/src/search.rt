@@ -1,6 +1,6 @@
 // The search: one pass over the nodes, in their order. Since every edge leads ahead, a node's cost is final when the pass
 // comes to it, so that one pass finds the least costs. A cost is kept plus 1, and 0 is "not come to".
-ghost use Rattle.std.specs.Prelude.{◌≡◌, suc, ◌<◌, ◌≤◌, length, drop, slice_index};
+ghost use Rattle.std.specs.Prelude.{◌≡◌, ◌<◌, ◌≤◌, length, drop, slice_index};
 ghost use Rattle.graph.specs.Rules.{Ahead};
 ghost use Rattle.graph.specs.Walks.{Leads};
 ghost use Rattle.graph.specs.Search.{Searched, Begun, Steps, Grown};
@@ -10,15 +10,12 @@ use crate::rules::{Edge, Rule};
 // Goes along one edge of `node`, which was come to at `cost_here`.
 fn relax(edge: Edge, node: usize, cost_here: u32, cost: &mut [u32], from: &mut [u32])
     requires come { 0 < cost_here }
-    requires ahead { 0 < edge.target → node < edge.target }
-    requires in_cost { edge.target ≤ length cost.old }
-    requires in_from { edge.target ≤ length from.old }
-    ensures { Grown (λ k. edge.target ≡ suc k) node cost.old from.old cost.new from.new }
+    requires ahead { node < edge.target }
+    requires in_cost { edge.target < length cost.old }
+    requires in_from { edge.target < length from.old }
+    ensures { Grown (λ k. edge.target ≡ k) node cost.old from.old cost.new from.new }
 {
-    if edge.target == 0 {
-        return;
-    }
-    let to = (edge.target - 1) as usize;
+    let to = edge.target as usize;
     let sum = cost_here.saturating_add(edge.cost);
     if cost[to] == 0 || sum < cost[to] {
         cost[to] = sum;
@@ -37,7 +34,9 @@ fn visit<R: Rule>(rule: &R, moves: usize, node: usize, cost: &mut [u32], from: &
         return;
     }
     for m in 0..moves {
-        relax(rule.edge(node, m), node, cost_here, cost, from);
+        if let Some(edge) = rule.edge(node, m) {
+            relax(edge, node, cost_here, cost, from);
+        }
     }
 }
 

@@ -26,12 +26,12 @@ fn count_links(from: &[u32], to: usize) -> usize
 fn find_move<R: Rule>(rule: &R, moves: usize, node: usize, to: usize) -> usize
     requires may { (m : ℕ) → m < moves → R.can rule.now node m }
     requires leads { Leads (R.next rule.now) moves node to }
-    requires fits { to + 1 < 2 ^ 64 }
     ensures below { result < moves }
     ensures leads { R.next rule.now node result ≡ suc to }
 {
     for m in 0..moves {
-        if rule.edge(node, m).target as usize == to + 1 {
+        let edge = rule.edge(node, m);
+        if edge.is_some_and(|edge| edge.target as usize == to) {
             return m;
         }
     }
@@ -47,10 +47,8 @@ fn fill_path<R: Rule>(rule: &R, moves: usize, from: &[u32], to: usize, len: usiz
     ensures { Written (R.next rule.now) moves to len path.old path.new }
 {
     let mut node = to;
-    let mut at = len;
-    'back: while at > 0 {
+    for at in (0..len).rev() {
         let before = from[node] as usize;
-        at -= 1;
         path[at] = find_move(rule, moves, before, node) as u32;
         node = before;
     }

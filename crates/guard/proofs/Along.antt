@@ -1,8 +1,7 @@
 -- Going along a path: what is passed so far, and what the rest of the path passes, is what all of it passes.
-use Rattle.std.proofs.Common.{◌≡◌, ℕ, suc, ◌+◌, ◌-◌, ◌*◌, ◌^◌, ◌<◌, ◌≤◌, List, [], ◌∷◌, ◌++◌, map, length, get_or, drop, sym, ap, ◌∙◌, subst, add-one, arith, drop_of_length-le, drop-cons}
+use Rattle.std.proofs.Common.{◌≡◌, ℕ, suc, ◌+◌, ◌*◌, ◌^◌, ◌<◌, ◌≤◌, List, [], ◌∷◌, ◌++◌, map, length, get_or, drop, sym, ap, ◌∙◌, subst, add-one, arith, drop_of_length-le, drop-cons}
 use mathlib.Core.Option.{some}
 use lib.Bits.{bit_or, or_lt, or_zero_l, or_zero_r}
-use Rattle.std.proofs.lemmas.List.{get_or_past}
 use Rattle.model.specs.Code.{Prog}
 use Rattle.model.specs.Fences.{Spot}
 use Rattle.model.specs.Machine.{St, Move, move, begin}
@@ -71,13 +70,9 @@ module _ (t : ℕ) (q g path : List ℕ) where
   next_of_rest node k passed h go = subst (λ (r : List ℕ). Goes t q g path node r passed) (drop-cons path k 0 h) go
 
   -- one turn
-  pub goes_on : (node k passed hits : ℕ) → k < length path → 0 < kept g (moves_of t) node (get_or path k 0) → hits ≡ hit_bits t q node (get_or path k 0) → Goes t q g path node (drop k path) passed → Goes t q g path (kept g (moves_of t) node (get_or path k 0) - 1) (drop (k + 1) path) (bit_or passed hits)
-  goes_on node k passed hits h edge is go =
-      let e = kept g (moves_of t) node (get_or path k 0) in
-      let s : e ≡ suc (e - 1) = omega arith in
-      subst (λ (z : ℕ). Goes t q g path (e - 1) (drop z path) (bit_or passed hits)) (sym (add-one k))
-      (subst (λ (z : ℕ). Goes t q g path (e - 1) (drop (suc k) path) (bit_or passed z)) (sym is)
-      (goes_more node (get_or path k 0) (drop (suc k) path) passed (e - 1) s (next_of_rest node k passed h go)))
+  pub goes_on : (node k passed hits target : ℕ) → k < length path → kept g (moves_of t) node (get_or path k 0) ≡ suc target → hits ≡ hit_bits t q node (get_or path k 0) → Goes t q g path node (drop k path) passed → Goes t q g path target (drop (k + 1) path) (bit_or passed hits)
+  goes_on node k passed hits target h edge is go =
+      rw (add-one k, is) (goes_more node (get_or path k 0) (drop (suc k) path) passed target edge (next_of_rest node k passed h go))
 
   -- at the path's end
   pub goes_all : (node k passed : ℕ) → length path ≤ k → Goes t q g path node (drop k path) passed → AllHits t q g path passed
@@ -97,6 +92,3 @@ module _ (t : ℕ) (q g path : List ℕ) where
       let a = next_of_rest node k passed h go p n j e x w in
       let (i, l, is, tail) = a.walk in
       absurd (omega arith)
-
-  pub past_edges : (node k passed r : ℕ) → k < length path → length g ≤ node * moves_of t + get_or path k 0 → Goes t q g path node (drop k path) passed → AllHits t q g path r
-  past_edges node k passed r h short go = no_edge node k passed r h (get_or_past g (node * moves_of t + get_or path k 0) 0 short) go

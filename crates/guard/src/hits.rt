@@ -4,6 +4,14 @@ ghost use Rattle.explore.specs.Found.{width};
 ghost use Rattle.guard.specs.Masks.{bit_of};
 ghost use Rattle.guard.specs.Rules.{word_bit, hit_bits};
 
+// States that were explored, for so many threads: their words, and the kept edges between them.
+#[derive(Clone, Copy)]
+pub struct States<'a> {
+    pub threads: usize,
+    pub queue: &'a [u32],
+    pub edges: &'a [u32],
+}
+
 // The bit of the spot before instruction `pc` of a thread; none past the eighth.
 fn bit_at(thread: usize, pc: u32) -> u32
     requires { thread < 4 }
@@ -26,14 +34,16 @@ fn hit_by_word(thread: usize, word: u32) -> u32
     bit_at(thread, (word >> 16) & 15)
 }
 
-// What move `by` of state `node` passes. A store going out passes nothing.
-pub fn hit(threads: usize, queue: &[u32], node: usize, by: usize) -> u32
-    requires few { threads ≤ 4 }
-    requires words { node * width threads + width threads ≤ length queue.now }
-    ensures { result ≡ hit_bits threads queue.now node by }
-{
-    if by >= threads {
-        return 0;
+impl States<'_> {
+    // What move `by` of state `node` passes. A store going out passes nothing.
+    pub fn hit(&self, node: usize, by: usize) -> u32
+        requires few { self.now.threads ≤ 4 }
+        requires words { node * width self.now.threads + width self.now.threads ≤ length self.now.queue.now }
+        ensures { result ≡ hit_bits self.now.threads self.now.queue.now node by }
+    {
+        if by >= self.threads {
+            return 0;
+        }
+        hit_by_word(by, self.queue[node * (1 + 3 * self.threads) + (1 + 3 * by)])
     }
-    hit_by_word(by, queue[node * (1 + 3 * threads) + (1 + 3 * by)])
 }

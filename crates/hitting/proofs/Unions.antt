@@ -1,6 +1,7 @@
 -- Clauses and what they have in all: a set of the fewest bits that meets them has no bit outside.
-use Rattle.std.proofs.Common.{◌≡◌, ℕ, zero, suc, ◌+◌, ◌<◌, ◌≤◌, ◌⊎◌, List, [], ◌∷◌, ◌++◌, length, get_or, refl, ap, ◌∙◌, inl, inr, arith, length-append}
-use lib.Bits.{bit_and, bit_or, and_le_r}
+use Rattle.std.proofs.Common.{◌≡◌, ℕ, zero, suc, ◌<◌, ◌≤◌, ◌⊎◌, List, [], ◌∷◌, ◌++◌, length, get_or, refl, ap, ◌∙◌, inl, inr, arith, length-append}
+use Rattle.std.specs.List.{fold}
+use lib.Bits.{bit_and, bit_or, and_le_r, and_self}
 use lib.Count.{ones}
 use Rattle.std.proofs.lemmas.List.{get_or_append_left}
 use Rattle.std.proofs.lemmas.Bool.{cases_lt, cases_eq}
@@ -24,22 +25,23 @@ fewest_within cs u n x w none e m =
       | inr ge ↦ less (omega arith)
     ]
 
-pub hold_more : (cs : List ℕ) (n u : ℕ) → Hold cs n u → Hold cs (n + 1) (bit_or u (get_or cs n 0))
-hold_more cs n u w k h =
-    elim (cases_eq k n) [
-      | inl e ↦ rw e (within_or_r u (get_or cs n 0))
-      | inr ne ↦ within_trans (get_or cs k 0) u (bit_or u (get_or cs n 0)) (w k (omega arith)) (within_or_l u (get_or cs n 0))
-    ]
+-- what is gathered so far stays in what all clauses give
+pub fold_keeps : (cs : List ℕ) (u : ℕ) → Within u (fold bit_or u cs)
+fold_keeps [] u = and_self u
+fold_keeps (c ∷ cs) u = within_trans u (bit_or u c) (fold bit_or u (c ∷ cs)) (within_or_l u c) (fold_keeps cs (bit_or u c))
 
--- u lies within every set that every clause lies within
-abbrev pub Least : List ℕ → ℕ → Type 0
-Least cs u = (m : ℕ) → Hold cs (length cs) m → Within u m
+pub fold_holds : (cs : List ℕ) (u : ℕ) → Hold cs (length cs) (fold bit_or u cs)
+fold_holds [] u k h = absurd (omega arith)
+fold_holds (c ∷ cs) u zero h = within_trans c (bit_or u c) (fold bit_or u (c ∷ cs)) (within_or_r u c) (fold_keeps cs (bit_or u c))
+fold_holds (c ∷ cs) u (suc k) h = fold_holds cs (bit_or u c) k (omega arith)
 
-pub least_more : (cs : List ℕ) (n u : ℕ) → n < length cs → Least cs u → Least cs (bit_or u (get_or cs n 0))
-least_more cs n u h l m w = or_within u (get_or cs n 0) m (l m w) (w n h)
+pub fold_least : (cs : List ℕ) (u m : ℕ) → Within u m → Hold cs (length cs) m → Within (fold bit_or u cs) m
+fold_least [] u m w h = w
+fold_least (c ∷ cs) u m w h = fold_least cs (bit_or u c) m (or_within u c m w (h 0 (omega arith))) (λ k l. h (suc k) (omega arith))
 
-pub union_is : (cs : List ℕ) (u : ℕ) → Hold cs (length cs) u → Least cs u → Union cs u
-union_is cs u w l = record { holds = w; least = l; fewest = λ n x. fewest_within cs u n x w }
+pub fold_is_union : (cs : List ℕ) → Union cs (fold bit_or 0 cs)
+fold_is_union cs =
+    record { holds = fold_holds cs 0; least = λ m. fold_least cs 0 m refl; fewest = λ n x. fewest_within cs (fold bit_or 0 cs) n x (fold_holds cs 0) }
 
 -- a set misses a clause or meets them all
 pub misses_or_meets : (cs : List ℕ) (x : ℕ) → Misses cs x ⊎ Meets cs x

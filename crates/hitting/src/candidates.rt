@@ -52,11 +52,9 @@ fn unmet(clauses: &[u32], among: u32, bits: u32, x: u32) -> Option<u32>
     ensures { UnmetOrCandidate clauses.now among bits x result }
 {
     if x.count_ones() < bits {
-        return Some(among - x);
-    }
-    match first_missed(clauses, x) {
-        Some(k) => Some(clauses[k]),
-        None => None,
+        Some(among - x)
+    } else {
+        first_missed(clauses, x).map(|k| clauses[k])
     }
 }
 
@@ -73,10 +71,7 @@ pub fn next_candidate(clauses: &[u32], among: u32, bits: u32, from: u32) -> Opti
         let Some(mark) = unmet(clauses, among, bits, x) else {
             return Some(x);
         };
-        let Some(y) = next_without(among, mark, x) else {
-            return None;
-        };
-        x = y;
+        x = next_without(among, mark, x)?;
     }
 }
 
@@ -87,12 +82,9 @@ mod tests {
 
     // The greatest candidate below `end`, by looking at one set after another.
     fn slowly(clauses: &[u32], among: u32, bits: u32, end: u32) -> Option<u32> {
-        for x in (0..end).rev() {
-            if x & among == x && x.count_ones() == bits && first_missed(clauses, x).is_none() {
-                return Some(x);
-            }
-        }
-        None
+        (0..end).rev().find(|x| {
+            x & among == *x && x.count_ones() == bits && first_missed(clauses, *x).is_none()
+        })
     }
 
     #[test]

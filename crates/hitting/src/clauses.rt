@@ -5,22 +5,12 @@ ghost use Rattle.hitting.specs.Post.{MissedOrMet, Union};
 pub fn first_missed(clauses: &[u32], x: u32) -> Option<usize>
     ensures { MissedOrMet clauses.now x result }
 {
-    'each: for (k, clause) in clauses.iter().enumerate() {
-        if x & *clause != 0 {
-            continue 'each;
-        }
-        return Some(k);
-    }
-    None
+    clauses.iter().position(|clause| x & *clause == 0)
 }
 
 // All bits of all clauses.
 pub fn union(clauses: &[u32]) -> u32
     ensures { Union clauses.now result }
 {
-    let mut all = 0;
-    for clause in clauses {
-        all |= *clause;
-    }
-    all
+    clauses.iter().fold(0, |all, clause| all | *clause)
 }

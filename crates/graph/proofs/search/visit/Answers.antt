@@ -1,15 +1,14 @@
-use Rattle.std.proofs.Common.{◌<◌, ◌≤◌, length, arith}
-use Rattle.graph.proofs.Growing.{grown_none, leads_more, leads_all, ahead_of, within_cost, within_from}
+use Rattle.std.proofs.Common.{◌≡◌, suc, ◌<◌, sym, arith}
+use Rattle.graph.proofs.Growing.{grown_none, leads_more, leads_same, leads_all}
 use Rattle.graph.proofs.search.visit.Goals as goal
+use Rattle.graph.proofs.search.visit.Goals.{in-Some, in_default}
 
 pub relax-requires : goal.relax-requires
 relax-requires g c =
     let s = c.requires.steps in
     let h : c.loop-m.m < c.args.moves = omega arith in
-    let e = c.edge.ensures in
-    let in_cost : c.edge.result.target ≤ length c.args.cost.now = within_cost _ _ _ _ _ _ s _ h _ e in
-    let in_from : c.edge.result.target ≤ length c.args.from.now = within_from _ _ _ _ _ _ s _ h _ e in
-    record { come = omega arith; ahead = ahead_of _ _ _ _ _ _ s _ h _ e; in_cost = omega arith; in_from = omega arith }
+    let e : g.R.Rule.next c.args.rule.now c.args.node c.loop-m.m ≡ suc c.in-Some.edge.target = sym c.in-Some.ensures in
+    record { come = omega arith; ahead = s.up _ _ h e; in_cost = let l = s.in_cost _ _ h e in omega arith; in_from = let l = s.in_from _ _ h e in omega arith }
 
 pub loop-m-init : goal.loop-m-init
 loop-m-init g c =
@@ -17,9 +16,17 @@ loop-m-init g c =
 
 pub loop-m-preserved : goal.loop-m-preserved
 loop-m-preserved g c =
-    leads_more (g.R.Rule.next c.args.rule.now) c.loop-m.m c.args.node c.args.cost.now c.args.from.now
-    c.loop-m.cost c.loop-m.from c.relax.new.cost c.relax.new.from c.edge.result.target
-    c.edge.ensures c.loop-m.invariant c.relax.ensures
+    let next = g.R.Rule.next c.args.rule.now in
+    let m = c.loop-m.m in
+    elim c.match-edge.branch [
+      | in-Some w ↦
+          rw (w.cost-is, w.from-is)
+          (leads_more next m c.args.node c.args.cost.now c.args.from.now c.loop-m.cost c.loop-m.from w.relax.new.cost w.relax.new.from w.in-Some.edge.target
+          w.in-Some.ensures c.loop-m.invariant w.relax.ensures)
+      | in_default w ↦
+          rw (w.cost-is, w.from-is)
+          (leads_same next m c.args.node c.args.cost.now c.args.from.now c.loop-m.cost c.loop-m.from w.in_default.ensures c.loop-m.invariant)
+    ]
 
 pub returns : goal.returns
 returns g c =
