@@ -24,14 +24,12 @@ pub fn enter(
     requires whole { length key.now ≡ shape.width }
     ensures { EnteredAs shape limit queue.old table.old n key.now queue.new table.new result }
 {
-    let place = find(shape, queue, n, table, key);
-    let entry = table[place] as usize;
-    if entry != 0 {
-        return Some((entry - 1, n));
+    match find(shape, queue, n, table, key) {
+        Ok(j) => Some((j, n)),
+        Err(_) if n >= limit => None,
+        Err(place) => {
+            insert(shape, queue, n, table, place, key);
+            Some((n, n + 1))
+        }
     }
-    if n >= limit {
-        return None;
-    }
-    insert(shape, queue, n, table, place, key);
-    Some((n, n + 1))
 }

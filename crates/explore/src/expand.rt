@@ -36,7 +36,7 @@ pub fn expand(
 {
     let mut states = n;
     for m in 0..2 * p.count {
-        let Some(more) = visit(
+        states = visit(
             p,
             shape,
             limit,
@@ -49,10 +49,7 @@ pub fn expand(
             table,
             edges,
             key,
-        ) else {
-            return None;
-        };
-        states = more;
+        )?;
     }
     Some(states)
 }

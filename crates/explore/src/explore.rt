@@ -11,16 +11,6 @@ use lent::shape::Shape;
 use lent::table::rebuild;
 use program::threads::Program;
 
-// Writes the first state, where all is 0.
-fn write_first(width: usize, queue: &mut [u32])
-    requires { width ≤ length queue.old }
-    ensures { take width queue.new ≡ replicate width 0 }
-{
-    for k in 0..width {
-        queue[k] = 0;
-    }
-}
-
 // The first state, and a small table for it.
 fn start(p: &Program, limit: usize, queue: &mut [u32], table: &mut [u32]) -> Shape
     requires some { 0 < limit }
@@ -31,7 +21,7 @@ fn start(p: &Program, limit: usize, queue: &mut [u32], table: &mut [u32]) -> Sha
     ensures { Started (program p.now) limit queue.new table.new result }
 {
     let width = 1 + 3 * p.count;
-    write_first(width, queue);
+    queue[..width].fill(0);
     let shape = Shape {
         width,
         bits: 10,
@@ -68,12 +58,9 @@ pub fn explore(
     let mut first = 0;
     'states: while i < n {
         shape = make_room(shape, limit, queue, n, table);
-        let Some(states) = expand(
+        n = expand(
             p, shape, limit, n, i, words, first, queue, table, edges, key,
-        ) else {
-            return None;
-        };
-        n = states;
+        )?;
         i += 1;
         words += shape.width;
         first += moves;

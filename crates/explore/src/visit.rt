@@ -42,9 +42,7 @@ pub fn visit(
         edges[at] = 0;
         return Some(n);
     }
-    let Some((j, states)) = enter(shape, limit, queue, n, table, key) else {
-        return None;
-    };
+    let (j, states) = enter(shape, limit, queue, n, table, key)?;
     edges[at] = (j + 1) as u32;
     Some(states)
 }

@@ -1,8 +1,8 @@
 // A table that finds records of equal width in lent words again. The records stand one after the other in one part of the
 // lent words, the queue, and the table in another; each is passed as a slice.
-ghost use Rattle.std.specs.Prelude.{◌≡◌, ℕ, ◌+◌, ◌*◌, ◌^◌, ◌<◌, ◌≤◌, length, drop, Decides, slice_index};
+ghost use Rattle.std.specs.Prelude.{◌≡◌, ◌+◌, ◌*◌, ◌^◌, ◌<◌, ◌≤◌, ◌==◌, length, drop, position, Decides};
 ghost use Rattle.lent.specs.Records.{rec};
-ghost use Rattle.lent.specs.Table.{homes, places, home, Probed, Free, Stop, Inserted, SomeFree, FirstFree};
+ghost use Rattle.lent.specs.Table.{homes, places, home, Probed, Free, Stop, Inserted};
 
 use crate::hash::hash;
 use crate::shape::Shape;
@@ -31,25 +31,29 @@ fn is_record(shape: Shape, queue: &[u32], i: usize, key: &[u32]) -> bool
     &queue[start..start + shape.width] == key
 }
 
-// The place where the probe for a key ends: it tells the record that is the key, or it is free and there is none. That
-// there are n records is for the contract alone.
-pub fn find(shape: Shape, queue: &[u32], n: usize, table: &[u32], key: &[u32]) -> usize
+// The record that is the key, or else the free place where the probe for it ends. That there are n records is for the
+// contract alone.
+pub fn find(
+    shape: Shape,
+    queue: &[u32],
+    n: usize,
+    table: &[u32],
+    key: &[u32],
+) -> Result<usize, usize>
     requires probed { Probed shape queue.now table.now n }
     requires room { n < shape.room }
     ensures { Stop shape queue.now table.now n key.now result }
 {
     let mut at = first_place(shape, key);
-    let place = 'probe: loop {
-        let entry = table[at] as usize;
-        if entry == 0 {
-            break 'probe at;
-        }
-        if is_record(shape, queue, entry - 1, key) {
-            break 'probe at;
+    'probe: loop {
+        let Some(i) = (table[at] as usize).checked_sub(1) else {
+            break 'probe Err(at);
+        };
+        if is_record(shape, queue, i, key) {
+            break 'probe Ok(i);
         }
         at += 1;
-    };
-    place
+    }
 }
 
 // Writes a new key behind the n records, and enters it at the place where `find` looked for it.
@@ -74,16 +78,11 @@ pub fn insert(
     table[place] = (n + 1) as u32;
 }
 
-// The first free place from one place on.
-fn free_place(table: &[u32], from: usize) -> usize
-    requires { SomeFree table.now from }
-    ensures { FirstFree table.now from result }
+// The first free place.
+fn free_place(table: &[u32]) -> Option<usize>
+    ensures { result ≡ position (λ x. x == 0) table.now }
 {
-    let mut at = from;
-    while table[at] != 0 {
-        at += 1;
-    }
-    at
+    table.iter().position(|entry| *entry == 0)
 }
 
 // Enters record n, which stands in the queue already.
@@ -97,19 +96,8 @@ fn enter(shape: Shape, queue: &[u32], n: usize, table: &mut [u32])
 {
     let start = n * shape.width;
     let from = first_place(shape, &queue[start..start + shape.width]);
-    let at = free_place(table, from);
+    let at = from + free_place(&table[from..]).unwrap();
     table[at] = (n + 1) as u32;
-}
-
-// Makes the first places free, and leaves the others as they are.
-fn clear(table: &mut [u32], count: usize)
-    requires { count ≤ length table.old }
-    ensures free { (p : ℕ) → p < count → slice_index table.new p ≡ 0 }
-    ensures rest { drop count table.new ≡ drop count table.old }
-{
-    for p in 0..count {
-        table[p] = 0;
-    }
 }
 
 // Makes the table anew for the first n records: at the start, and when it is to grow.
@@ -121,7 +109,7 @@ pub fn rebuild(shape: Shape, queue: &[u32], n: usize, table: &mut [u32])
     ensures probed { Probed shape queue.now table.new n }
     ensures rest { drop (places shape) table.new ≡ drop (places shape) table.old }
 {
-    clear(table, table_places(shape));
+    table[..table_places(shape)].fill(0);
     for i in 0..n {
         enter(shape, queue, i, table);
     }

@@ -73,7 +73,7 @@ states-preserved c =
     let l = length_program c.args.p.now in
     let kt = c.expand.auto.table in
     let f = r.fits in (
-      turned p c.make_room-shape.result c.args.limit c.expand.new.queue c.expand.new.table c.expand.new.edges c.in-Some.states c.states.i c.in-Some.ensures (omega arith),
+      turned p c.make_room-shape.result c.args.limit c.expand.new.queue c.expand.new.table c.expand.new.edges c.in_ok-n.n c.states.i c.in_ok-n.ensures (omega arith),
       (let m = more_words c.states.i (width (length p)) in omega arith),
       (let m = more_words c.states.i (moves_of (length p)) in omega arith),
     )
