@@ -6,7 +6,7 @@ use Rattle.std.proofs.lemmas.List.{get_or-set_same, get_or-set_other, length-tak
 use Rattle.std.proofs.lemmas.Nat.{div-mul-add, mod-mul-add}
 use Rattle.lent.specs.declared.shape.Shape.{Shape}
 use Rattle.lent.specs.Records.{rec}
-use Rattle.lent.proofs.RecordLaws.{ends_within, rec_kept, rec_part}
+use Rattle.lent.proofs.RecordLaws.{ends_within, length_rec, rec_kept}
 use Rattle.model.specs.Code.{Prog}
 use Rattle.model.specs.Machine.{St, Move, move, moves, begin}
 use Rattle.model.proofs.Levels.{run_threads, run_more}
@@ -23,12 +23,13 @@ words_within i n limit w len h k l = let a = ends_within w n i h in let b = mul-
 pub word_within : (i n limit w m len : ℕ) → i < n → n ≤ limit → m < w → limit * w ≤ len → i * w + m < len
 word_within i n limit w m len h k b l = let a = words_within i n limit w len h k l in omega arith
 
--- a state's words, as the code cuts them out
-pub part_is : (q : List ℕ) (i start w w' : ℕ) → start ≡ i * w → w ≡ w' → take (start + w - start) (drop start q) ≡ rec q w' i
-part_is q i start w w' e f = ap (λ z. take (z + w - z) (drop z q)) e ∙ rec_part q w i ∙ ap (λ z. rec q z i) f
+-- the record of the state whose turn it is
+pub record_state : (p : Prog) (s : Shape) (limit : ℕ) (q t g : List ℕ) (n i m : ℕ) (ws : List ℕ) → Going p s limit q t g n i m → ws ≡ rec q s.width i → ws ≡ rec q (width (length p)) i
+record_state p s limit q t g n i m ws go e = e ∙ ap (λ z. rec q z i) go.wide
 
-pub part_length : (q : List ℕ) (start w : ℕ) → start + w ≤ length q → length (take (start + w - start) (drop start q)) ≡ w
-part_length q start w h = simp (length-take, length-drop) (omega arith)
+pub record_length : (p : Prog) (s : Shape) (limit : ℕ) (q t g : List ℕ) (n i m : ℕ) (ws : List ℕ) → Going p s limit q t g n i m → ws ≡ rec q s.width i → limit * s.width ≤ length q → length ws ≡ width (length p)
+record_length p s limit q t g n i m ws go e h =
+    ap length e ∙ length_rec q s.width i (words_within i n limit s.width (length q) go.here go.few h) ∙ go.wide
 
 -- each edge has a place of its own
 pub same_edge : (i j m l w : ℕ) → m < w → l < w → i * w + m ≡ j * w + l → (i ≡ j) × (m ≡ l)
@@ -65,7 +66,7 @@ edges_more p q g n i m x hm hg e old k l hl b =
 
 module _ (p : Prog) (s : Shape) (limit : ℕ) (q t g : List ℕ) (n i m : ℕ) (go : Going p s limit q t g n i m) (hm : m < moves_of (length p)) (hg : i * moves_of (length p) + m < length g) where
   -- a move that can't be made
-  pub no_edge : (ws : List ℕ) → Stepped (λ s. move p s (move_of (length p) m)) (rec q (width (length p)) i) false ws → Visited p s limit n i m q t (set g (i * moves_of (length p) + m) 0) (Some n)
+  pub no_edge : (ws : List ℕ) → Stepped (λ s. move p s (move_of (length p) m)) (rec q (width (length p)) i) false ws → Visited p s limit n i m q t (set g (i * moves_of (length p) + m) 0) n (Some tt)
   no_edge ws st =
       let f = go.found in (
         record {
@@ -97,7 +98,7 @@ module _ (p : Prog) (s : Shape) (limit : ℕ) (q t g : List ℕ) (n i m : ℕ) (
       subst (Crowded p) r.full c
 
   -- a move to a state that is found, now or before
-  pub an_edge : (key q' t' : List ℕ) (j n' : ℕ) → Stepped (λ s. move p s (move_of (length p) m)) (rec q (width (length p)) i) true key → Entered s limit q t n key q' t' j n' → Visited p s limit n i m q' t' (set g (i * moves_of (length p) + m) (j + 1)) (Some n')
+  pub an_edge : (key q' t' : List ℕ) (j n' : ℕ) → Stepped (λ s. move p s (move_of (length p) m)) (rec q (width (length p)) i) true key → Entered s limit q t n key q' t' j n' → Visited p s limit n i m q' t' (set g (i * moves_of (length p) + m) (j + 1)) n' (Some tt)
   an_edge key q' t' j n' st r =
       let (u, ms, e, k, a, b) = led key st in
       let w = width (length p) in

@@ -3,35 +3,31 @@ ghost use Rattle.std.specs.Prelude.{◌≡◌, ◌+◌, ◌*◌, ◌^◌, ◌<�
 ghost use Rattle.lent.specs.Table.{Probed};
 ghost use Rattle.explore.specs.Post.{EnteredAs};
 
-use lent::shape::Shape;
-use lent::table::{find, insert};
+use lent::table::Records;
 
-// The number of the record that is the key, and how many records there are then; none where the key is new and all is
-// full.
-pub fn enter(
-    shape: Shape,
-    limit: usize,
-    queue: &mut [u32],
-    n: usize,
-    table: &mut [u32],
-    key: &[u32],
-) -> Option<(usize, usize)>
-    requires probed { Probed shape queue.old table.old n }
-    requires room { n < shape.room }
-    requires few { n ≤ limit }
+// The number of the record that is the key, which is written behind the others if it is new; none where it is new and all
+// is full.
+pub fn enter(records: &mut Records<'_, '_>, limit: usize, key: &[u32]) -> Option<usize>
+    requires probed { Probed records.old.shape records.old.queue.now records.old.table.now records.old.n }
+    requires room { records.old.n < records.old.shape.room }
+    requires few { records.old.n ≤ limit }
     requires told { limit < 2 ^ 32 }
-    requires ends { limit * shape.width ≤ length queue.old }
-    requires whole { length key.now ≡ shape.width }
-    ensures { EnteredAs shape limit queue.old table.old n key.now queue.new table.new result }
+    requires ends { limit * records.old.shape.width ≤ length records.old.queue.now }
+    requires whole { length key.now ≡ records.old.shape.width }
+    ensures entered { EnteredAs records.old.shape limit records.old.queue.now records.old.table.now records.old.n key.now records.new.queue.now records.new.table.now records.new.n result }
+    ensures shape { records.new.shape ≡ records.old.shape }
+    ensures words { length records.new.queue.now ≡ length records.old.queue.now }
+    ensures places { length records.new.table.now ≡ length records.old.table.now }
+    ensures queue { records.new.queue.ghost_name ≡ records.old.queue.ghost_name }
+    ensures table { records.new.table.ghost_name ≡ records.old.table.ghost_name }
 {
-    let place = find(shape, queue, n, table, key);
-    let entry = table[place] as usize;
-    if entry != 0 {
-        return Some((entry - 1, n));
+    match records.find(key) {
+        Ok(j) => Some(j),
+        Err(_) if records.n >= limit => None,
+        Err(place) => {
+            let j = records.n;
+            records.insert(place, key);
+            Some(j)
+        }
     }
-    if n >= limit {
-        return None;
-    }
-    insert(shape, queue, n, table, place, key);
-    Some((n, n + 1))
 }

@@ -5,54 +5,33 @@ ghost use Rattle.explore.specs.Found.{width, moves_of};
 ghost use Rattle.explore.specs.Post.{Going, Expanded};
 
 use crate::visit::visit;
-use lent::shape::Shape;
+use lent::table::Records;
 use program::threads::Program;
 
-// The moves of state `i`, whose words begin at `start`, and whose edges' words at `first`. Gives how many states there
-// are then; none where there is one more than may be.
+// The moves of state `i`; none where there is one state more than may be.
 pub fn expand(
     p: &Program,
-    shape: Shape,
+    records: &mut Records<'_, '_>,
     limit: usize,
-    n: usize,
     i: usize,
-    start: usize,
-    first: usize,
-    queue: &mut [u32],
-    table: &mut [u32],
     edges: &mut [u32],
     key: &mut [u32],
-) -> Option<usize>
-    requires going { Going (program p.now) shape limit queue.old table.old edges.old n i 0 }
+) -> Option<()>
+    requires going { Going (program p.now) records.old.shape limit records.old.queue.now records.old.table.now edges.old records.old.n i 0 }
     requires key { length key.old ≡ width (length (program p.now)) }
-    requires room { n + 8 < shape.room }
+    requires room { records.old.n + 8 < records.old.shape.room }
     requires told { limit < 2 ^ 32 }
-    requires starts { start ≡ i * shape.width }
-    requires words { start + shape.width ≤ length queue.old }
-    requires stands { first ≡ i * moves_of (length (program p.now)) }
-    requires edges_end { first + moves_of (length (program p.now)) ≤ length edges.old }
-    requires ends { limit * shape.width ≤ length queue.old }
-    ensures { Expanded (program p.now) shape limit i queue.new table.new edges.new result }
+    requires edges_end { i * moves_of (length (program p.now)) + moves_of (length (program p.now)) ≤ length edges.old }
+    requires ends { limit * records.old.shape.width ≤ length records.old.queue.now }
+    ensures expanded { Expanded (program p.now) records.old.shape limit i records.new.queue.now records.new.table.now edges.new records.new.n result }
+    ensures shape { records.new.shape ≡ records.old.shape }
+    ensures words { length records.new.queue.now ≡ length records.old.queue.now }
+    ensures places { length records.new.table.now ≡ length records.old.table.now }
+    ensures queue { records.new.queue.ghost_name ≡ records.old.queue.ghost_name }
+    ensures table { records.new.table.ghost_name ≡ records.old.table.ghost_name }
 {
-    let mut states = n;
     for m in 0..2 * p.count {
-        let Some(more) = visit(
-            p,
-            shape,
-            limit,
-            states,
-            i,
-            m,
-            start,
-            first + m,
-            queue,
-            table,
-            edges,
-            key,
-        ) else {
-            return None;
-        };
-        states = more;
+        visit(p, records, limit, i, m, edges, key)?;
     }
-    Some(states)
+    Some(())
 }

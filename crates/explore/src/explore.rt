@@ -8,37 +8,35 @@ ghost use Rattle.explore.specs.Post.{Between, Started, AllExplored};
 use crate::expand::expand;
 use crate::grow::make_room;
 use lent::shape::Shape;
-use lent::table::rebuild;
+use lent::table::Records;
 use program::threads::Program;
 
-// Writes the first state, where all is 0.
-fn write_first(width: usize, queue: &mut [u32])
-    requires { width ≤ length queue.old }
-    ensures { take width queue.new ≡ replicate width 0 }
-{
-    for k in 0..width {
-        queue[k] = 0;
-    }
-}
-
-// The first state, and a small table for it.
-fn start(p: &Program, limit: usize, queue: &mut [u32], table: &mut [u32]) -> Shape
+// The first state, where all is 0, and a small table for it.
+fn start<'q, 't>(
+    p: &Program,
+    limit: usize,
+    queue: &'q mut [u32],
+    table: &'t mut [u32],
+) -> Records<'q, 't>
     requires some { 0 < limit }
     requires told { limit < 2 ^ 32 }
     requires room { width (length (program p.now)) ≤ length queue.old }
     requires small { 1536 ≤ length table.old }
     requires fits { 1024 + (limit + 9) ≤ length table.old }
-    ensures { Started (program p.now) limit queue.new table.new result }
+    ensures started { Started (program p.now) limit result.queue.now result.table.now result.shape }
+    ensures one { result.n ≡ 1 }
+    ensures words { length result.queue.now ≡ length queue.old }
+    ensures queue { result.queue.ghost_name ≡ queue.entry.ghost_name }
+    ensures table { result.table.ghost_name ≡ table.entry.ghost_name }
 {
     let width = 1 + 3 * p.count;
-    write_first(width, queue);
+    queue[..width].fill(0);
     let shape = Shape {
         width,
         bits: 10,
         room: 512,
     };
-    rebuild(shape, queue, 1, table);
-    shape
+    Records::new(shape, 1, queue, table)
 }
 
 // All states that runs come to, at most `limit`, with all their edges; none where there are more. `key` is for one
@@ -60,23 +58,12 @@ pub fn explore(
     requires fits { 1024 + (limit + 9) ≤ length table.old }
     ensures { AllExplored (program p.now) limit queue.new edges.new result }
 {
-    let moves = 2 * p.count;
-    let mut shape = start(p, limit, queue, table);
-    let mut n = 1;
+    let mut records = start(p, limit, queue, table);
     let mut i = 0;
-    let mut words = 0;
-    let mut first = 0;
-    'states: while i < n {
-        shape = make_room(shape, limit, queue, n, table);
-        let Some(states) = expand(
-            p, shape, limit, n, i, words, first, queue, table, edges, key,
-        ) else {
-            return None;
-        };
-        n = states;
+    'states: while i < records.n {
+        make_room(&mut records, limit);
+        expand(p, &mut records, limit, i, edges, key)?;
         i += 1;
-        words += shape.width;
-        first += moves;
     }
-    Some(n)
+    Some(records.n)
 }

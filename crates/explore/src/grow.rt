@@ -4,7 +4,7 @@ ghost use Rattle.lent.specs.Table.{homes, Probed};
 ghost use Rattle.explore.specs.Grown.{Larger, Roomy};
 
 use lent::shape::Shape;
-use lent::table::rebuild;
+use lent::table::Records;
 
 // A larger shape for the table, with room for the moves of one more state: twice the homes, half of them to be taken, as
 // long as there are words for that; else room for all states that may be.
@@ -35,19 +35,20 @@ fn larger(shape: Shape, limit: usize, n: usize, places: usize) -> Shape
     }
 }
 
-// The shape of a table with room for the moves of one more state: the same where there is room, else a larger one, for
-// which the table is made anew.
-pub fn make_room(shape: Shape, limit: usize, queue: &[u32], n: usize, table: &mut [u32]) -> Shape
-    requires probed { Probed shape queue.now table.old n }
-    requires few { n ≤ limit }
+// Room in the table for the moves of one more state: where there is none, the table is made anew, and larger.
+pub fn make_room(records: &mut Records<'_, '_>, limit: usize)
+    requires probed { Probed records.old.shape records.old.queue.now records.old.table.now records.old.n }
+    requires few { records.old.n ≤ limit }
     requires told { limit < 2 ^ 32 }
-    requires fits { homes shape + (limit + 9) ≤ length table.old }
-    ensures { Roomy shape limit queue.now n table.new result }
+    requires fits { homes records.old.shape + (limit + 9) ≤ length records.old.table.now }
+    ensures roomy { Roomy records.old.shape limit records.new.queue.now records.new.n records.new.table.now records.new.shape }
+    ensures n { records.new.n ≡ records.old.n }
+    ensures states { records.new.queue.now ≡ records.old.queue.now }
+    ensures queue { records.new.queue.ghost_name ≡ records.old.queue.ghost_name }
+    ensures table { records.new.table.ghost_name ≡ records.old.table.ghost_name }
 {
-    if n + 8 < shape.room {
-        return shape;
+    if records.n + 8 >= records.shape.room {
+        let larger = larger(records.shape, limit, records.n, records.table.len());
+        records.reshape(larger);
     }
-    let larger = larger(shape, limit, n, table.len());
-    rebuild(larger, queue, n, table);
-    larger
 }

@@ -7,44 +7,39 @@ ghost use Rattle.explore.specs.Post.{Going, Visited};
 
 use crate::enter::enter;
 use crate::steps::step;
-use lent::shape::Shape;
+use lent::table::Records;
 use program::threads::Program;
 
-// Move `m` of state `i`, whose words begin at `start`, and whose edge's word stands `at`. Gives how many states there are
-// then; none where there is one more than may be.
+// Move `m` of state `i`; none where there is one state more than may be.
 pub fn visit(
     p: &Program,
-    shape: Shape,
+    records: &mut Records<'_, '_>,
     limit: usize,
-    n: usize,
     i: usize,
     m: usize,
-    start: usize,
-    at: usize,
-    queue: &mut [u32],
-    table: &mut [u32],
     edges: &mut [u32],
     key: &mut [u32],
-) -> Option<usize>
-    requires going { Going (program p.now) shape limit queue.old table.old edges.old n i m }
+) -> Option<()>
+    requires going { Going (program p.now) records.old.shape limit records.old.queue.now records.old.table.now edges.old records.old.n i m }
     requires key { length key.old ≡ width (length (program p.now)) }
-    requires room { n < shape.room }
+    requires room { records.old.n < records.old.shape.room }
     requires told { limit < 2 ^ 32 }
-    requires starts { start ≡ i * shape.width }
-    requires words { start + shape.width ≤ length queue.old }
-    requires stands { at ≡ i * moves_of (length (program p.now)) + m }
-    requires word { at < length edges.old }
-    requires ends { limit * shape.width ≤ length queue.old }
+    requires word { i * moves_of (length (program p.now)) + m < length edges.old }
+    requires ends { limit * records.old.shape.width ≤ length records.old.queue.now }
     requires below { m < moves_of (length (program p.now)) }
-    ensures { Visited (program p.now) shape limit n i m queue.new table.new edges.new result }
+    ensures visited { Visited (program p.now) records.old.shape limit records.old.n i m records.new.queue.now records.new.table.now edges.new records.new.n result }
+    ensures shape { records.new.shape ≡ records.old.shape }
+    ensures words { length records.new.queue.now ≡ length records.old.queue.now }
+    ensures places { length records.new.table.now ≡ length records.old.table.now }
+    ensures queue { records.new.queue.ghost_name ≡ records.old.queue.ghost_name }
+    ensures table { records.new.table.ghost_name ≡ records.old.table.ghost_name }
 {
-    if !step(p, m, &queue[start..start + shape.width], key) {
+    let at = i * (2 * p.count) + m;
+    if !step(p, m, records.record(i), key) {
         edges[at] = 0;
-        return Some(n);
+        return Some(());
     }
-    let Some((j, states)) = enter(shape, limit, queue, n, table, key) else {
-        return None;
-    };
+    let j = enter(records, limit, key)?;
     edges[at] = (j + 1) as u32;
-    Some(states)
+    Some(())
 }

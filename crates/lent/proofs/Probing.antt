@@ -1,12 +1,15 @@
 -- Probing: what a probe has seen on its way, and that a record entered where a probe found a free place is found again.
-use Rattle.std.proofs.Common.{◌≡◌, ℕ, ◌+◌, ◌-◌, ◌*◌, ◌<◌, ◌≤◌, ◌≢◌, ◌⊎◌, List, length, get_or, take, drop, set, sym, refl, ap, ◌∙◌, subst, inl, inr, arith}
+use Rattle.std.proofs.Common.{◌≡◌, ℕ, ◌+◌, ◌-◌, ◌*◌, ◌<◌, ◌≤◌, ◌≢◌, ◌⊎◌, List, length, get_or, take, drop, set, Some, None, Bool, true, false, cond, nat_eq, sym, refl, ap, ◌∙◌, subst, inl, inr, arith}
 use borrow.Rule.Slice.PartMut.{put_mid}
-use Rattle.std.proofs.lemmas.List.{length-append, length-take, length-drop, length-set, get_or-set_same, get_or-set_other, drop-set-lt}
+use Rattle.std.proofs.lemmas.List.{get_or-drop, length-append, length-take, length-drop, length-set, get_or-set_same, get_or-set_other, drop-set-lt}
 use Rattle.std.proofs.lemmas.Slice.{take-put_mid_below, drop-put_mid}
-use Rattle.std.proofs.lemmas.Bool.{cases_eq, cases_lt, cases_order}
+use Rattle.std.proofs.lemmas.Bool.{cases_eq, cases_lt, cases_order, lt-ltb, eqb-true}
+use Rattle.std.proofs.lemmas.Bool.Decides.{nat_tests}
+use Rattle.std.proofs.lemmas.List.Sums.{fails_before_first, passes_at_first}
+use Rattle.std.specs.List.{position, position_or_len}
 use Rattle.lent.specs.declared.shape.Shape.{Shape}
 use Rattle.lent.specs.Records.{rec}
-use Rattle.lent.specs.Table.{homes, places, home, Full, Placed, Probed, Free, Stop, Inserted, SomeFree, FirstFree}
+use Rattle.lent.specs.Table.{homes, places, home, Full, Placed, Probed, Free, Inserted, SomeFree, FirstFree}
 use Rattle.lent.proofs.RecordLaws.{rec_kept, rec_put, more_words, ends_within}
 
 -- every place up to `at` is full, and what it holds is not the key
@@ -30,14 +33,6 @@ module _ (s : Shape) (q t : List ℕ) (n : ℕ) (key : List ℕ) (at : ℕ) (pro
         past = λ k a b same. elim (cases_eq k at) [ inl e ↦ other (rw e at same) | inr ne ↦ looked.past k a (omega arith) same ];
       }
 
-  pub looked_known : 0 < get_or t at 0 → rec q s.width (get_or t at 0 - 1) ≡ key → Stop s q t n key at
-  looked_known h same =
-      record {
-        inside = omega arith;
-        known = λ _. record { below = probed.entries at (omega arith); same = same };
-        free = λ e. absurd (omega arith);
-      }
-
   -- the probe for a record that is the key would have come to that record's place
   not_there : get_or t at 0 ≡ 0 → (i : ℕ) → rec q s.width i ≡ key → Placed s q t n i → ⊥
   not_there e i same p =
@@ -51,19 +46,14 @@ module _ (s : Shape) (q t : List ℕ) (n : ℕ) (key : List ℕ) (at : ℕ) (pro
         | inr (inr after) ↦ omega (arith, p.full at (omega (arith, looked.behind)) after)
       ]
 
-  pub looked_free : get_or t at 0 ≡ 0 → Stop s q t n key at
+  pub looked_free : get_or t at 0 ≡ 0 → Free s q t n key at
   looked_free e =
       record {
-        inside = omega arith;
-        known = λ h. absurd (omega arith);
-        free = λ _.
-            record {
-              empty = e;
-              behind = looked.behind;
-              within = looked.within;
-              full = looked.full;
-              new = λ i h same. not_there e i same (probed.placed i h);
-            };
+        empty = e;
+        behind = looked.behind;
+        within = looked.within;
+        full = looked.full;
+        new = λ i h same. not_there e i same (probed.placed i h);
       }
 
 -- a walk through full places is not yet past a free one
@@ -82,6 +72,42 @@ pub some_free : (s : Shape) (q t : List ℕ) (n a : ℕ) → Probed s q t n → 
 some_free s q t n a probed room h =
     let f = probed.fits in
     record { place = homes s + n; behind = omega arith; inside = omega arith; empty = free_behind s q t n probed room }
+
+-- the first free place from `a` on, looked for by its position behind `a`
+module _ (t : List ℕ) (a : ℕ) (free : SomeFree t a) where
+  before_end : position_or_len (λ (x : ℕ). nat_eq x 0) (drop a t) < length (drop a t)
+  before_end =
+      let behind = free.behind in
+      let inside = free.inside in
+      elim (cases_lt (position_or_len (λ (x : ℕ). nat_eq x 0) (drop a t)) (length (drop a t))) [
+        | inl l ↦ l
+        | inr g ↦
+            let k : free.place - a < position_or_len (λ (x : ℕ). nat_eq x 0) (drop a t) = omega (arith, length-drop a t) in
+            let there : a + (free.place - a) ≡ free.place = omega arith in
+            let e : get_or (drop a t) (free.place - a) 0 ≡ 0 = get_or-drop a t (free.place - a) 0 ∙ ap (λ k. get_or t k 0) there ∙ free.empty in
+            let z : true ≡ false = sym (ap (λ x. nat_eq x 0) e) ∙ fails_before_first (λ (x : ℕ). nat_eq x 0) (drop a t) (free.place - a) 0 k in
+            absurd cc
+      ]
+
+  pub first_position : position (λ (x : ℕ). nat_eq x 0) (drop a t) ≡ Some (position_or_len (λ (x : ℕ). nat_eq x 0) (drop a t))
+  first_position = ap (λ (b : Bool). cond b (Some (position_or_len (λ (x : ℕ). nat_eq x 0) (drop a t))) None) (lt-ltb (position_or_len (λ (x : ℕ). nat_eq x 0) (drop a t)) (length (drop a t)) before_end)
+
+  pub first_free : (b : ℕ) → position (λ (x : ℕ). nat_eq x 0) (drop a t) ≡ Some b → FirstFree t a (a + b)
+  first_free b e =
+      let at : position_or_len (λ (x : ℕ). nat_eq x 0) (drop a t) ≡ b = (let z = sym first_position ∙ e in cc) in
+      let here = before_end in
+      let l = length-drop a t in
+      let passes = passes_at_first (λ (x : ℕ). nat_eq x 0) (drop a t) 0 here in
+      record {
+        behind = omega arith;
+        inside = omega arith;
+        empty = sym (get_or-drop a t b 0) ∙ ap (λ k. get_or (drop a t) k 0) (sym at) ∙ eqb-true _ 0 passes;
+        full = λ k g h.
+            let before : k - a < position_or_len (λ (x : ℕ). nat_eq x 0) (drop a t) = omega arith in
+            let there : a + (k - a) ≡ k = omega arith in
+            let fails : nat_eq (get_or t k 0) 0 ≡ false = ap (λ j. nat_eq (get_or t j 0) 0) (sym there) ∙ ap (λ x. nat_eq x 0) (sym (get_or-drop a t (k - a) 0)) ∙ fails_before_first (λ (x : ℕ). nat_eq x 0) (drop a t) (k - a) 0 before in
+            grind (arith, nat_tests);
+      }
 
 -- the words of a record that a place tells
 pub told_words : (s : Shape) (q t : List ℕ) (n p : ℕ) → Probed s q t n → p < places s → 0 < get_or t p 0 → (get_or t p 0 - 1 + 1) * s.width ≤ length q

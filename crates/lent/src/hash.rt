@@ -22,14 +22,13 @@ pub fn hash(key: &[u32]) -> u64
     ensures { result ≡ hash_of key.now }
 {
     let mut h = 0;
-    let mut i = 0;
-    while i + 1 < key.len() {
-        h = stirred(h, key[i], key[i + 1]);
-        i += 2;
+    let mut rest = key;
+    while let [a, b, more @ ..] = rest {
+        h = stirred(h, *a, *b);
+        rest = more;
     }
-    if i < key.len() {
-        spread_out(stirred(h, key[i], 0))
-    } else {
-        spread_out(h)
+    match rest {
+        [last] => spread_out(stirred(h, *last, 0)),
+        _ => spread_out(h),
     }
 }

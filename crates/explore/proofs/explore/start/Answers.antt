@@ -1,26 +1,25 @@
-use Rattle.std.proofs.Common.{◌≡◌, ℕ, ◌+◌, ◌*◌, length, take, replicate, sym, ap, subst, arith}
+use Rattle.std.proofs.Common.{◌≡◌, ℕ, ◌+◌, ◌*◌, ◌≤◌, List, ◌++◌, length, take, drop, replicate, sym, ap, ◌∙◌, subst, arith}
+use Rattle.std.proofs.lemmas.List.{take_at, length-take-le}
+use Rattle.lent.specs.declared.shape.Shape.{Shape}
+use Rattle.lent.specs.Table.{homes, Probed}
 use Rattle.program.specs.Meaning.{program}
 use Rattle.program.proofs.WriteWords.{length_program}
 use Rattle.explore.specs.Found.{width}
 use Rattle.explore.proofs.Turns.{begun}
 use Rattle.explore.proofs.explore.start.Goals as goal
 
-pub write_first-requires : goal.write_first-requires
-write_first-requires c = let l = length_program c.args.p.now in let r = c.requires.room in omega arith
-
-pub rebuild-requires : goal.rebuild-requires
-rebuild-requires c =
-    let l = length_program c.args.p.now in
-    let r = c.requires.room in
-    let k = c.write_first.auto.queue in
-    record { few = omega arith; told = omega arith; held = omega arith; fits = c.requires.small }
-
-pub returns : goal.returns
-returns c =
+pub returns-clause-started : goal.returns-clause-started
+returns-clause-started c =
     let p = program c.args.p.now in
     let l = length_program c.args.p.now in
+    let r = c.new.result in
+    let new = c.new.ensures in
+    let long : 1 + 3 * c.args.p.now.count ≤ length c.args.queue.now = (let h = c.requires.room in omega arith) in
     let w : 1 + 3 * c.args.p.now.count ≡ width (length p) = ap (λ (z : ℕ). 1 + 3 * z) (sym l) in
-    let e = subst (λ (z : ℕ). take z c.write_first.new.queue ≡ replicate z 0) w c.write_first.ensures in
-    let k = c.rebuild.auto.table in
+    let zeros : c.fill.new.self ≡ replicate (1 + 3 * c.args.p.now.count) 0 = c.fill.ensures.after (λ y e. e) ∙ ap (λ (z : ℕ). replicate z 0) (length-take-le (1 + 3 * c.args.p.now.count) c.args.queue.now long) in
+    let e : take (width (length p)) (c.fill.new.self ++ drop (1 + 3 * c.args.p.now.count) c.args.queue.now) ≡ replicate (width (length p)) 0 =
+    take_at c.fill.new.self _ (width (length p)) (c.fill.ensures.len ∙ length-take-le (1 + 3 * c.args.p.now.count) c.args.queue.now long ∙ w) ∙ zeros ∙ ap (λ (z : ℕ). replicate z 0) w in
+    let h : homes r.shape ≡ 1024 = ap (λ (s : Shape). homes s) new.shape in
     let f = c.requires.fits in
-    begun p _ c.args.limit c.write_first.new.queue c.rebuild.new.table e w c.rebuild.ensures.probed c.requires.some (omega arith)
+    let k = new.places in
+    begun p r.shape c.args.limit r.queue.now r.table.now (ap (take (width (length p))) new.records ∙ e) (ap (λ (s : Shape). s.width) new.shape ∙ w) (subst (λ (z : ℕ). Probed r.shape r.queue.now r.table.now z) new.n new.probed) c.requires.some (omega arith)

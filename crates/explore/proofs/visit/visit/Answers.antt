@@ -1,49 +1,59 @@
-use Rattle.std.proofs.Common.{ℕ, ◌+◌, ◌<◌, true, false, List, length, set, Some, sym, ◌∙◌, subst}
+use Rattle.std.proofs.Common.{◌≡◌, ℕ, ◌+◌, ◌*◌, ◌<◌, true, false, List, length, set, Some, sym, ap, ◌∙◌, subst}
 use Rattle.program.specs.Meaning.{program}
+use Rattle.program.proofs.WriteWords.{length_program}
 use Rattle.machine.specs.Post.{Holds, Stepped}
 use Rattle.model.specs.Machine.{move}
-use Rattle.explore.specs.Found.{width, move_of}
+use Rattle.explore.specs.Found.{moves_of, move_of}
 use Rattle.explore.specs.Post.{Visited}
-use Rattle.explore.proofs.Edges.{holds, no_edge, no_room, an_edge, part_is, part_length}
+use Rattle.explore.proofs.Edges.{holds, no_edge, no_room, an_edge, record_state, record_length}
 use Rattle.explore.proofs.visit.visit.Goals as goal
 
--- the state's words as the record that they are
-pub step-requires : goal.step-requires
-step-requires c =
-    let p = program c.args.p.now in
-    let go = c.requires.going in
-    let e = part_is c.args.queue.now c.args.i c.args.start c.args.shape.width (width (length p)) c.requires.starts go.wide in
-    let l = part_length c.args.queue.now c.args.start c.args.shape.width c.requires.words in
-    record { long = l ∙ go.wide; same = c.requires.key ∙ sym (l ∙ go.wide); below = c.requires.below; holds = subst (Holds p) (sym e) (holds p c.args.queue.now c.args.n c.args.i go.found go.here) }
+pub step-requires-clause-long : goal.step-requires-clause-long
+step-requires-clause-long c =
+    let r = c.args.records.now in
+    record_length (program c.args.p.now) r.shape c.args.limit r.queue.now r.table.now c.args.edges.now r.n c.args.i c.args.m _ c.requires.going c.record.ensures c.requires.ends
 
-pub returns-then-not-step : goal.returns-then-not-step
-returns-then-not-step c =
+pub step-requires-clause-same : goal.step-requires-clause-same
+step-requires-clause-same c =
+    let r = c.args.records.now in
+    c.requires.key ∙ sym (record_length (program c.args.p.now) r.shape c.args.limit r.queue.now r.table.now c.args.edges.now r.n c.args.i c.args.m _ c.requires.going c.record.ensures c.requires.ends)
+
+pub step-requires-clause-holds : goal.step-requires-clause-holds
+step-requires-clause-holds c =
+    let r = c.args.records.now in
     let p = program c.args.p.now in
     let go = c.requires.going in
-    let q = c.args.queue.now in
-    let e = part_is q c.args.i c.args.start c.args.shape.width (width (length p)) c.requires.starts go.wide in
-    let hg = subst (λ (z : ℕ). z < length c.args.edges.now) c.requires.stands c.requires.word in
+    let e = record_state p r.shape c.args.limit r.queue.now r.table.now c.args.edges.now r.n c.args.i c.args.m _ go c.record.ensures in
+    subst (Holds p) (sym e) (holds p r.queue.now r.n c.args.i go.found go.here)
+
+pub returns-then-not-step-clause-visited : goal.returns-then-not-step-clause-visited
+returns-then-not-step-clause-visited c =
+    let r = c.args.records.now in
+    let p = program c.args.p.now in
+    let go = c.requires.going in
+    let e = record_state p r.shape c.args.limit r.queue.now r.table.now c.args.edges.now r.n c.args.i c.args.m _ go c.record.ensures in
+    let at : c.args.i * (2 * c.args.p.now.count) + c.args.m ≡ c.args.i * moves_of (length p) + c.args.m = ap (λ (z : ℕ). c.args.i * (2 * z) + c.args.m) (sym (length_program c.args.p.now)) in
     let st = subst (λ (ws : List ℕ). Stepped (λ s. move p s (move_of (length p) c.args.m)) ws false c.step.new.to) e c.if-not-step.ensures in
-    subst (λ (z : ℕ). Visited p c.args.shape c.args.limit c.args.n c.args.i c.args.m q c.args.table.now (set c.args.edges.now z 0) (Some c.args.n)) (sym c.requires.stands)
-    (no_edge p c.args.shape c.args.limit q c.args.table.now c.args.edges.now c.args.n c.args.i c.args.m go c.requires.below hg c.step.new.to st)
+    subst (λ (z : ℕ). Visited p r.shape c.args.limit r.n c.args.i c.args.m r.queue.now r.table.now (set c.args.edges.now z 0) r.n (Some tt)) (sym at)
+    (no_edge p r.shape c.args.limit r.queue.now r.table.now c.args.edges.now r.n c.args.i c.args.m go c.requires.below c.requires.word c.step.new.to st)
 
-pub returns-in_default : goal.returns-in_default
-returns-in_default c =
+pub returns-in_err-j-clause-visited : goal.returns-in_err-j-clause-visited
+returns-in_err-j-clause-visited c =
+    let r = c.args.records.now in
     let p = program c.args.p.now in
     let go = c.requires.going in
-    let q = c.args.queue.now in
-    let e = part_is q c.args.i c.args.start c.args.shape.width (width (length p)) c.requires.starts go.wide in
-    let hg = subst (λ (z : ℕ). z < length c.args.edges.now) c.requires.stands c.requires.word in
+    let e = record_state p r.shape c.args.limit r.queue.now r.table.now c.args.edges.now r.n c.args.i c.args.m _ go c.record.ensures in
     let st = subst (λ (ws : List ℕ). Stepped (λ s. move p s (move_of (length p) c.args.m)) ws true c.step.new.to) e c.if-not-step.ensures in
-    no_room p c.args.shape c.args.limit q c.args.table.now c.args.edges.now c.args.n c.args.i c.args.m go c.requires.below hg c.step.new.to st c.in_default.ensures
+    rw c.from_residual.ensures (no_room p r.shape c.args.limit r.queue.now r.table.now c.args.edges.now r.n c.args.i c.args.m go c.requires.below c.requires.word c.step.new.to st c.in_err-j.ensures.entered)
 
-pub returns : goal.returns
-returns c =
+pub returns-clause-visited : goal.returns-clause-visited
+returns-clause-visited c =
+    let r = c.args.records.now in
+    let r' = c.enter.new.records in
     let p = program c.args.p.now in
     let go = c.requires.going in
-    let q = c.args.queue.now in
-    let e = part_is q c.args.i c.args.start c.args.shape.width (width (length p)) c.requires.starts go.wide in
-    let hg = subst (λ (z : ℕ). z < length c.args.edges.now) c.requires.stands c.requires.word in
+    let e = record_state p r.shape c.args.limit r.queue.now r.table.now c.args.edges.now r.n c.args.i c.args.m _ go c.record.ensures in
+    let at : c.args.i * (2 * c.args.p.now.count) + c.args.m ≡ c.args.i * moves_of (length p) + c.args.m = ap (λ (z : ℕ). c.args.i * (2 * z) + c.args.m) (sym (length_program c.args.p.now)) in
     let st = subst (λ (ws : List ℕ). Stepped (λ s. move p s (move_of (length p) c.args.m)) ws true c.step.new.to) e c.if-not-step.ensures in
-    subst (λ (z : ℕ). Visited p c.args.shape c.args.limit c.args.n c.args.i c.args.m c.enter.new.queue c.enter.new.table (set c.args.edges.now z (c.in-Some.j + 1)) (Some c.in-Some.states)) (sym c.requires.stands)
-    (an_edge p c.args.shape c.args.limit q c.args.table.now c.args.edges.now c.args.n c.args.i c.args.m go c.requires.below hg c.step.new.to c.enter.new.queue c.enter.new.table c.in-Some.j c.in-Some.states st c.in-Some.ensures)
+    subst (λ (z : ℕ). Visited p r.shape c.args.limit r.n c.args.i c.args.m r'.queue.now r'.table.now (set c.args.edges.now z (c.in_ok-j.j + 1)) r'.n (Some tt)) (sym at)
+    (an_edge p r.shape c.args.limit r.queue.now r.table.now c.args.edges.now r.n c.args.i c.args.m go c.requires.below c.requires.word c.step.new.to r'.queue.now r'.table.now c.in_ok-j.j r'.n st c.in_ok-j.ensures.entered)
