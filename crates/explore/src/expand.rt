@@ -30,7 +30,7 @@ pub fn expand(
     ensures queue { records.new.queue.ghost_name ≡ records.old.queue.ghost_name }
     ensures table { records.new.table.ghost_name ≡ records.old.table.ghost_name }
 {
-    for m in 0..2 * p.count {
+    for m in 0..2 * p.count() {
         visit(p, records, limit, i, m, edges, key)?;
     }
     Some(())

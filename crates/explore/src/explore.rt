@@ -29,7 +29,7 @@ fn start<'q, 't>(
     ensures queue { result.queue.ghost_name ≡ queue.entry.ghost_name }
     ensures table { result.table.ghost_name ≡ table.entry.ghost_name }
 {
-    let width = 1 + 3 * p.count;
+    let width = 1 + 3 * p.count();
     queue[..width].fill(0);
     let shape = Shape {
         width,

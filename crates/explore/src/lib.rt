@@ -5,5 +5,4 @@ pub mod enter;
 pub mod expand;
 pub mod explore;
 pub mod grow;
-pub mod steps;
 pub mod visit;

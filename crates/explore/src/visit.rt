@@ -6,8 +6,9 @@ ghost use Rattle.explore.specs.Found.{width, moves_of};
 ghost use Rattle.explore.specs.Post.{Going, Visited};
 
 use crate::enter::enter;
-use crate::steps::step;
 use lent::table::Records;
+use machine::moves::Move;
+use machine::states::State;
 use program::threads::Program;
 
 // Move `m` of state `i`; none where there is one state more than may be.
@@ -34,8 +35,13 @@ pub fn visit(
     ensures queue { records.new.queue.ghost_name ≡ records.old.queue.ghost_name }
     ensures table { records.new.table.ghost_name ≡ records.old.table.ghost_name }
 {
-    let at = i * (2 * p.count) + m;
-    if !step(p, m, records.record(i), key) {
+    let threads = p.count();
+    let at = i * (2 * threads) + m;
+    let state = State {
+        p,
+        words: records.record(i),
+    };
+    if !state.make(Move::numbered(threads, m as u32), key) {
         edges[at] = 0;
         return Some(());
     }

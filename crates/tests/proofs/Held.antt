@@ -1,5 +1,5 @@
 -- All words 0 hold a state of the program, the one where every run begins.
-use Rattle.std.proofs.Common.{◌≡◌, ℕ, suc, ◌+◌, ◌*◌, List, [], ◌∷◌, length, replicate, sym, refl, ap, ◌∙◌, subst}
+use Rattle.std.proofs.Common.{◌≡◌, ℕ, suc, ◌+◌, ◌*◌, List, [], ◌∷◌, length, replicate, sym, refl, ap, subst}
 use Rattle.model.specs.Code.{Prog}
 use Rattle.model.specs.Machine.{begin, starts}
 use Rattle.program.specs.declared.threads.Program.{Program}
