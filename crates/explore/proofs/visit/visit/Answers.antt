@@ -28,7 +28,7 @@ returns-then-not-make-clause-visited c =
     let go = c.requires.going in
     let e = record_state p r.shape c.args.limit r.queue.now r.table.now c.args.edges.now r.n c.args.i c.args.m _ go c.record.ensures in
     let at : c.args.i * (2 * c.count-threads.result) + c.args.m ≡ c.args.i * moves_of (length p) + c.args.m = ap (λ (z : ℕ). c.args.i * (2 * z) + c.args.m) c.count-threads.ensures.value in
-    let st = subst (λ (ws : List ℕ). Stepped (λ s. move p s (move_of (length p) c.args.m)) ws false c.make.new.to) e (stepped_number p c.count-threads.result c.args.m _ _ _ _ c.numbered.ensures c.count-threads.ensures.value c.if-not-make.ensures) in
+    let st = subst (λ (ws : List ℕ). Stepped (λ s. move p s (move_of (length p) c.args.m)) ws false c.make.new.to) e (stepped_number p c.count-threads.result c.args.m _ c.record.result.now false c.make.new.to c.numbered.ensures c.count-threads.ensures.value c.if-not-make.ensures) in
     subst (λ (z : ℕ). Visited p r.shape c.args.limit r.n c.args.i c.args.m r.queue.now r.table.now (set c.args.edges.now z 0) r.n (Some tt)) (sym at)
     (no_edge p r.shape c.args.limit r.queue.now r.table.now c.args.edges.now r.n c.args.i c.args.m go c.requires.below c.requires.word c.make.new.to st)
 
@@ -38,7 +38,7 @@ returns-in_err-j-clause-visited c =
     let p = program c.args.p.now in
     let go = c.requires.going in
     let e = record_state p r.shape c.args.limit r.queue.now r.table.now c.args.edges.now r.n c.args.i c.args.m _ go c.record.ensures in
-    let st = subst (λ (ws : List ℕ). Stepped (λ s. move p s (move_of (length p) c.args.m)) ws true c.make.new.to) e (stepped_number p c.count-threads.result c.args.m _ _ _ _ c.numbered.ensures c.count-threads.ensures.value c.if-not-make.ensures) in
+    let st = subst (λ (ws : List ℕ). Stepped (λ s. move p s (move_of (length p) c.args.m)) ws true c.make.new.to) e (stepped_number p c.count-threads.result c.args.m _ c.record.result.now true c.make.new.to c.numbered.ensures c.count-threads.ensures.value c.if-not-make.ensures) in
     rw c.from_residual.ensures (no_room p r.shape c.args.limit r.queue.now r.table.now c.args.edges.now r.n c.args.i c.args.m go c.requires.below c.requires.word c.make.new.to st c.in_err-j.ensures.entered)
 
 pub returns-clause-visited : goal.returns-clause-visited
@@ -49,6 +49,6 @@ returns-clause-visited c =
     let go = c.requires.going in
     let e = record_state p r.shape c.args.limit r.queue.now r.table.now c.args.edges.now r.n c.args.i c.args.m _ go c.record.ensures in
     let at : c.args.i * (2 * c.count-threads.result) + c.args.m ≡ c.args.i * moves_of (length p) + c.args.m = ap (λ (z : ℕ). c.args.i * (2 * z) + c.args.m) c.count-threads.ensures.value in
-    let st = subst (λ (ws : List ℕ). Stepped (λ s. move p s (move_of (length p) c.args.m)) ws true c.make.new.to) e (stepped_number p c.count-threads.result c.args.m _ _ _ _ c.numbered.ensures c.count-threads.ensures.value c.if-not-make.ensures) in
+    let st = subst (λ (ws : List ℕ). Stepped (λ s. move p s (move_of (length p) c.args.m)) ws true c.make.new.to) e (stepped_number p c.count-threads.result c.args.m _ c.record.result.now true c.make.new.to c.numbered.ensures c.count-threads.ensures.value c.if-not-make.ensures) in
     subst (λ (z : ℕ). Visited p r.shape c.args.limit r.n c.args.i c.args.m r'.queue.now r'.table.now (set c.args.edges.now z (c.in_ok-j.j + 1)) r'.n (Some tt)) (sym at)
     (an_edge p r.shape c.args.limit r.queue.now r.table.now c.args.edges.now r.n c.args.i c.args.m go c.requires.below c.requires.word c.make.new.to r'.queue.now r'.table.now c.in_ok-j.j r'.n st c.in_ok-j.ensures.entered)
