@@ -7,7 +7,7 @@ use Rattle.model.proofs.Tools.{some_is, nth_below, and_both, eqb_is, eqb_same, e
 use Rattle.program.specs.declared.threads.Thread as code
 use Rattle.program.specs.declared.threads.Program.{Program}
 use Rattle.program.specs.Meaning.{thread, program}
-use Rattle.program.proofs.ReadProgram.{length_thread}
+use Rattle.program.proofs.Lookup.{nth_map}
 use Rattle.machine.specs.Packed.{Packs}
 use Rattle.machine.proofs.StateLaws.{length_pack, thread_at}
 use Rattle.explore.specs.Found.{width}
@@ -19,7 +19,7 @@ DoneBefore p ws n = (s : St) → Packs ws s → (k : ℕ) (c : Thread) → k < n
 
 -- a thread is at the end of its code t, and nothing of it waits
 abbrev pub has_ended : code.Thread → At → Bool
-has_ended t a = eqb a.pc t.len && empty a.waits
+has_ended t a = eqb a.pc (length (thread t)) && empty a.waits
 
 module _ (p : Prog) (ws : List ℕ) (long : length ws ≡ width (length p)) (n : ℕ) (t : code.Thread) (code : nth p n ≡ some (thread t)) where
   -- thread n of a state in these words
@@ -31,10 +31,10 @@ module _ (p : Prog) (ws : List ℕ) (long : length ws ≡ width (length p)) (n :
       (a, e)
 
   ended : (a : At) → has_ended t a ≡ true → Ended (thread t) a
-  ended a e = let (pc, row) = and_both (eqb a.pc t.len) (empty a.waits) e in (eqb_is a.pc t.len pc ∙ sym (length_thread t), empty_is a.waits row)
+  ended a e = let (pc, row) = and_both (eqb a.pc (length (thread t))) (empty a.waits) e in (eqb_is a.pc (length (thread t)) pc, empty_is a.waits row)
 
   ended_is : (a : At) → Ended (thread t) a → has_ended t a ≡ true
-  ended_is a (pc, row) = rw (pc ∙ length_thread t, row) (ap (λ (b : Bool). b && true) (eqb_same t.len))
+  ended_is a (pc, row) = rw (pc, row) (ap (λ (b : Bool). b && true) (eqb_same (length (thread t))))
 
   pub done_more : ((s : St) (a : At) → Packs ws s → nth s.threads n ≡ some a → has_ended t a ≡ true) → DoneBefore p ws n → DoneBefore p ws (n + 1)
   done_more d before s h k b l e =
@@ -57,10 +57,5 @@ pub done_all : (p : Prog) (ws : List ℕ) (n : ℕ) → length p ≤ n → DoneB
 done_all p ws n h d s k = sym (at_done p s.threads (λ i c e. let b = nth_below p i e in d s k i c (omega arith) e))
 
 -- thread n of the code, as the n-th of those that the program has
-nth_map : {A B : Type 0} (f : A → B) (xs : List A) (n : ℕ) (x : A) → n < length xs → x ≡ get_or xs n x → nth (map f xs) n ≡ some (f x)
-nth_map f [] n x h e = absurd (omega arith)
-nth_map f (y ∷ xs) zero x h e = ap (λ z. some (f z)) (sym e)
-nth_map f (y ∷ xs) (suc n) x h e = nth_map f xs n x (omega arith) e
-
-pub code_at : (p : Program) (n : ℕ) (t : code.Thread) → n < length (take p.count p.threads) → t ≡ get_or (take p.count p.threads) n t → nth (program p) n ≡ some (thread t)
-code_at p = nth_map thread (take p.count p.threads)
+pub code_at : (p : Program) (ts : List code.Thread) (n : ℕ) (t : code.Thread) → ts ≡ p.threads.items → n < length ts → t ≡ get_or ts n t → nth (program p) n ≡ some (thread t)
+code_at p ts n t e h is = ap (λ (us : List code.Thread). nth (map thread us) n) (sym e) ∙ nth_map thread ts n t h ∙ ap (λ (z : code.Thread). some (thread z)) (sym is)

@@ -19,12 +19,13 @@ pub fn mark_at_once(p: &Program, edges: &[u32], n: usize, cost: &mut [u32], from
     ensures cost_behind { drop n cost.new ≡ drop n cost.old }
     ensures from_behind { drop n from.new ≡ drop n from.old }
 {
+    let threads = p.count();
     let rule = Joined {
         rule: Kept {
             edges,
-            width: 2 * p.count,
+            width: 2 * threads,
         },
-        shift: p.count,
+        shift: threads,
     };
-    search(&rule, n, p.count, cost, from);
+    search(&rule, n, threads, cost, from);
 }

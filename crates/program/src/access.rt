@@ -1,7 +1,6 @@
 // Reading a program: its threads, and their instructions.
-ghost use Rattle.std.specs.Prelude.{◌≡◌, ◌≤◌, map, length};
-ghost use Rattle.program.specs.Instructions.{instruction};
-ghost use Rattle.program.specs.Meaning.{thread, program};
+ghost use Rattle.std.specs.Prelude.{◌≡◌, ◌≤◌, length};
+ghost use Rattle.program.specs.Meaning.{program};
 ghost use Rattle.program.specs.Post.{InstructionAt};
 
 use crate::instructions::Instruction;
@@ -9,7 +8,7 @@ use crate::threads::{Program, Thread};
 
 impl Thread {
     pub fn instructions(&self) -> &[Instruction]
-        ensures are { map instruction result.now ≡ thread self.now }
+        ensures are { result.now ≡ self.now.code.items }
         ensures few { length result.now ≤ 8 }
     {
         self.code.as_slice()
@@ -18,7 +17,7 @@ impl Thread {
 
 impl Program {
     pub fn threads(&self) -> &[Thread]
-        ensures { map thread result.now ≡ program self.now }
+        ensures { result.now ≡ self.now.threads.items }
     {
         self.threads.as_slice()
     }

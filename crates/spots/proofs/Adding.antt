@@ -1,11 +1,12 @@
 -- Adding bits up: one instruction more, one thread more, and the sum stays below 2 ^ 32.
-use Rattle.std.proofs.Common.{◌≡◌, ℕ, zero, suc, ◌+◌, ◌-◌, ◌*◌, ◌^◌, ◌<◌, ◌≤◌, List, [], ◌∷◌, ◌++◌, length, get_or, take, sym, ap, ◌∙◌, subst, append_assoc, append-nil, add-one, arith}
-use Rattle.std.proofs.lemmas.List.{map_more, length-map, length-take-le, get_or-take}
+use Rattle.std.proofs.Common.{◌≡◌, ℕ, zero, suc, ◌+◌, ◌-◌, ◌*◌, ◌^◌, ◌<◌, ◌≤◌, List, [], ◌∷◌, ◌++◌, map, length, get_or, take, sym, ap, ◌∙◌, subst, append_assoc, append-nil, add-one, arith}
+use Rattle.std.proofs.lemmas.List.{map_more, length-map, length-take-le}
 use Rattle.model.specs.Code.{Thread, Prog}
+use Rattle.program.specs.declared.instructions.Instruction.{Instruction}
+use Rattle.program.specs.Instructions.{instruction}
 use Rattle.program.specs.declared.threads.Thread as code
 use Rattle.program.specs.declared.threads.Program.{Program}
-use Rattle.program.specs.Meaning.{thread, threads, program}
-use Rattle.program.proofs.ReadProgram.{length_thread}
+use Rattle.program.specs.Meaning.{thread, program}
 use Rattle.program.proofs.WriteWords.{program_ok}
 use Rattle.hitting.specs.Spots.{mask_of, Ascends}
 use Rattle.hitting.proofs.Theorems.{set_of_spots}
@@ -39,31 +40,31 @@ rows_push n (u ∷ p) t =
     ap (λ (z : List ℕ). row (8 * n) (length u) ++ z) (rows_push (suc n) p t ∙ ap (λ (z : ℕ). rows (suc n) p ++ row z (length t)) e)
     ∙ sym (append_assoc (row (8 * n) (length u)) (rows (suc n) p) (row (8 * (n + suc (length p))) (length t)))
 
--- a program of the first n threads
-abbrev front : (p : Program) (n : ℕ) → 1 ≤ n → n ≤ p.count → Program
-front p n a b = record { threads = p.threads; count = n; four = p.four; one = a; few = let c = p.few in omega arith }
+-- the first n threads as a program
+abbrev front : (p : Program) (n : ℕ) → 1 ≤ n → n ≤ length p.threads.items → Program
+front p n a b =
+    record {
+      threads = record { items = take n p.threads.items };
+      one = (let l = length-take-le n p.threads.items b in omega arith);
+      few = (let l = length-take-le n p.threads.items b in let f = p.few in omega arith);
+    }
 
--- the slice of the threads that the program has
-pub front_long : (p : Program) → length (take p.count p.threads) ≡ p.count
-front_long p = length-take-le p.count p.threads (let f = p.four in let g = p.few in omega arith)
+pub rows_more : (ts : List code.Thread) (n : ℕ) (t : code.Thread) (is : List Instruction) → n < length ts → t ≡ get_or ts n t → is ≡ t.code.items → mask_of (rows 0 (map thread (take (n + 1) ts))) ≡ mask_of (rows 0 (map thread (take n ts))) + mask_of (row (8 * n) (length is))
+rows_more ts n t is h e same =
+    let p = map thread (take n ts) in
+    let long : length p ≡ n = length-map (take n ts) thread ∙ length-take-le n ts (omega arith) in
+    let at : 8 * (0 + length p) ≡ 8 * n = omega arith in
+    ap (λ (z : Prog). mask_of (rows 0 z)) (map_more thread ts n t h ∙ ap (λ (z : code.Thread). p ++ thread z ∷ []) (sym e))
+    ∙ ap mask_of (rows_push 0 p (thread t))
+    ∙ mask_append (rows 0 p) (row (8 * (0 + length p)) (length (thread t)))
+    ∙ ap (λ (z : ℕ). mask_of (rows 0 p) + mask_of (row z (length (thread t)))) at
+    ∙ ap (λ (z : ℕ). mask_of (rows 0 p) + mask_of (row (8 * n) z)) (length-map t.code.items instruction ∙ ap length (sym same))
 
-pub rows_more : (p : Program) (n : ℕ) (t : code.Thread) → n < p.count → t ≡ get_or (take p.count p.threads) n t → mask_of (rows 0 (threads p.threads (n + 1))) ≡ mask_of (rows 0 (threads p.threads n)) + mask_of (row (8 * n) t.len)
-rows_more p n t h e =
-    let four = p.four in
-    let few = p.few in
-    let ts = p.threads in
-    let is : get_or ts n t ≡ t = sym (e ∙ get_or-take p.count ts n t h) in
-    let long : length (threads ts n) ≡ n = length-map (take n ts) thread ∙ length-take-le n ts (omega arith) in
-    let at : 8 * (0 + length (threads ts n)) ≡ 8 * n = omega arith in
-    ap (λ (z : Prog). mask_of (rows 0 z)) (map_more thread ts n t (omega arith) ∙ ap (λ (z : code.Thread). threads ts n ++ thread z ∷ []) is)
-    ∙ ap mask_of (rows_push 0 (threads ts n) (thread t))
-    ∙ mask_append (rows 0 (threads ts n)) (row (8 * (0 + length (threads ts n))) (length (thread t)))
-    ∙ ap (λ (z : ℕ). mask_of (rows 0 (threads ts n)) + mask_of (row z (length (thread t)))) at
-    ∙ ap (λ (z : ℕ). mask_of (rows 0 (threads ts n)) + mask_of (row (8 * n) z)) (length_thread t)
-
-pub rows_small : (p : Program) (n : ℕ) → n < p.count → mask_of (rows 0 (threads p.threads (n + 1))) < 2 ^ 32
-rows_small p n h =
+pub rows_small : (p : Program) (ts : List code.Thread) (n : ℕ) → ts ≡ p.threads.items → n < length ts → mask_of (rows 0 (map thread (take (n + 1) ts))) < 2 ^ 32
+rows_small p ts n same h =
+    let k = ap length same in
     let q = front p (n + 1) (omega arith) (omega arith) in
     let e = every_is (program q) in
     let l = every_small (program q) (program_ok q) in
+    let f : mask_of (rows 0 (map thread (take (n + 1) ts))) ≡ mask_of (rows 0 (program q)) = ap (λ (us : List code.Thread). mask_of (rows 0 (map thread (take (n + 1) us)))) same in
     omega arith

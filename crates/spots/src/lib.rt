@@ -27,8 +27,8 @@ pub fn every_spot(p: &Program) -> u32
     ensures { result ≡ every_spot (program p.now) }
 {
     let mut bits = 0;
-    for (n, t) in p.threads[..p.count].iter().enumerate() {
-        bits += row_of(n, t.len);
+    for (n, t) in p.threads().iter().enumerate() {
+        bits += row_of(n, t.instructions().len());
     }
     bits
 }

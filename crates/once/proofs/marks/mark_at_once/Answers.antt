@@ -2,7 +2,6 @@ use Rattle.std.proofs.Common.{ℕ, ◌*◌, sym, subst, arith}
 use Rattle.graph.specs.Rules.{kept, Keeps, joined, Joins, Ahead}
 use Rattle.graph.specs.Search.{Searched}
 use Rattle.program.specs.Meaning.{program}
-use Rattle.program.proofs.WriteWords.{length_program}
 use Rattle.once.proofs.Steps.{once_ahead, marks_once}
 use Rattle.once.proofs.marks.mark_at_once.Goals as goal
 
@@ -10,8 +9,8 @@ pub search-requires : goal.search-requires
 search-requires c =
     let p = program c.args.p.now in
     let g = c.args.edges.now in
-    let l = length_program c.args.p.now in
-    let few = c.args.p.now.few in
+    let l = sym c.count-threads.ensures.value in
+    let few = c.count-threads.ensures.few in
     let x = c.requires.explored.1 in
     record {
       ahead =
@@ -26,7 +25,7 @@ pub returns : goal.returns
 returns c =
     let p = program c.args.p.now in
     let g = c.args.edges.now in
-    let l = length_program c.args.p.now in
+    let l = sym c.count-threads.ensures.value in
     record {
       marks =
           λ q x.
