@@ -1,7 +1,7 @@
 -- Fields written one after another, and the registers of threads as the fields of their words.
-use Rattle.std.proofs.Common.{◌≡◌, ℕ, zero, suc, ◌+◌, ◌*◌, ◌/◌, ◌%◌, ◌<◌, ◌≤◌, List, [], ◌∷◌, ◌++◌, length, get_or, take, drop, set, sym, refl, ap, ◌∙◌, arith}
+use Rattle.std.proofs.Common.{◌≡◌, ℕ, zero, suc, ◌+◌, ◌-◌, ◌*◌, ◌/◌, ◌%◌, ◌<◌, ◌≤◌, List, [], ◌∷◌, ◌++◌, length, get_or, take, drop, set, sym, refl, ap, ◌∙◌, add-one, arith, length-set, length-take, length-drop}
 use mathlib.Core.Option.{some}
-use Rattle.std.proofs.lemmas.List.{append_assoc, append-nil, take-set, take_more_set, take_all, drop-drop}
+use Rattle.std.proofs.lemmas.List.{append_assoc, append-nil, take_more_set, take_all, drop-drop}
 use Rattle.lent.specs.Nibbles.{nibbles}
 use Rattle.model.specs.Code.{nth}
 use Rattle.model.specs.Machine.{At, St, regs_of, outcome}
@@ -16,22 +16,22 @@ unfolding nibbles
 nibbles_suc zero w = refl
 nibbles_suc (suc j) w = ap (λ (l : List ℕ). w % 16 ∷ l) (nibbles_suc j (w / 16))
 
-pub fields_none : (o : List ℕ) (at w : ℕ) → take (at + 0) o ≡ take at o ++ nibbles 0 w
+pub fields_none : (o : List ℕ) (w : ℕ) → take 0 o ≡ nibbles 0 w
 unfolding nibbles
-fields_none o at w = let p : at + 0 ≡ at = omega arith in ap (λ (n : ℕ). take n o) p ∙ sym (append-nil (take at o))
+fields_none o w = refl
 
-pub field_more : (o o' : List ℕ) (at j w v : ℕ) → at + j < length o' → take (at + j) o' ≡ take at o ++ nibbles j w → v ≡ get_or (nibbles (suc j) w) j 0 → take (at + (j + 1)) (set o' (at + j) v) ≡ take at o ++ nibbles (j + 1) w
-field_more o o' at j w v l h e =
-    let p : at + (j + 1) ≡ at + j + 1 = omega arith in
-    let q : suc j ≡ j + 1 = omega arith in
-    ap (λ (n : ℕ). take n (set o' (at + j) v)) p
-    ∙ take_more_set o' (at + j) v l
+pub field_more : (o : List ℕ) (j w v : ℕ) → j < length o → take j o ≡ nibbles j w → v ≡ get_or (nibbles (suc j) w) j 0 → take (j + 1) (set o j v) ≡ nibbles (j + 1) w
+field_more o j w v l h e =
+    take_more_set o j v l
     ∙ ap (λ (z : List ℕ). z ++ v ∷ []) h
-    ∙ append_assoc (take at o) (nibbles j w) (v ∷ [])
-    ∙ ap (λ (x : ℕ). take at o ++ (nibbles j w ++ x ∷ [])) e
-    ∙ ap (λ (z : List ℕ). take at o ++ z) (sym (nibbles_suc j w))
-    ∙ ap (λ (n : ℕ). take at o ++ nibbles n w) q
+    ∙ ap (λ (x : ℕ). nibbles j w ++ x ∷ []) e
+    ∙ sym (nibbles_suc j w)
+    ∙ ap (λ (n : ℕ). nibbles n w) (sym (add-one j))
 
+pub fields_all : (o : List ℕ) (j k w : ℕ) → j ≡ k → length o ≡ k → take j o ≡ nibbles j w → o ≡ nibbles k w
+fields_all o j k w e l h = sym (take_all j o (omega arith)) ∙ h ∙ ap (λ (n : ℕ). nibbles n w) e
+
+-- for crates above: what is kept from one place on is kept from a later one on
 pub drop_further : (m n : ℕ) (a b : List ℕ) → m ≤ n → drop m a ≡ drop m b → drop n a ≡ drop n b
 drop_further m n a b l e =
     let (d, p) = gap m n l in
@@ -62,32 +62,29 @@ fields_are ws s (suc n) h l =
     ∙ sym (regs_more s.threads n a e)
 
 -- once, and the registers of the first n threads, are written
-abbrev pub Written : List ℕ → List ℕ → List ℕ → ℕ → ℕ → ℕ → Type 0
-Written o o' ws at once n = take (at + (1 + 4 * n)) o' ≡ take at o ++ (once ∷ reg_fields n ws)
+abbrev pub Written : List ℕ → List ℕ → ℕ → ℕ → Type 0
+Written row ws once n = take (1 + 4 * n) row ≡ once ∷ reg_fields n ws
 
-pub written_none : (o ws : List ℕ) (at once : ℕ) → at < length o → Written (set o at once) (set o at once) ws at once 0
-written_none o ws at once l = take_more_set o at once l ∙ ap (λ (z : List ℕ). z ++ once ∷ []) (sym (take-set o at once))
+pub written_none : (row ws : List ℕ) (once : ℕ) → 0 < length row → Written (set row 0 once) ws once 0
+written_none row ws once l = take_more_set row 0 once l
 
-pub written_more : (o o₁ o₂ ws : List ℕ) (at once n : ℕ) → Written o o₁ ws at once n → take (at + (1 + 4 * n) + 4) o₂ ≡ take (at + (1 + 4 * n)) o₁ ++ nibbles 4 (get_or ws (1 + 3 * n) 0) → Written o o₂ ws at once (n + 1)
-written_more o o₁ o₂ ws at once n h e =
-    let p : at + (1 + 4 * (n + 1)) ≡ at + (1 + 4 * n) + 4 = omega arith in
-    let q : suc n ≡ n + 1 = omega arith in
-    let w = nibbles 4 (get_or ws (1 + 3 * n) 0) in
-    ap (λ (k : ℕ). take k o₂) p
-    ∙ e
-    ∙ ap (λ (z : List ℕ). z ++ w) h
-    ∙ append_assoc (take at o) (once ∷ reg_fields n ws) w
-    ∙ ap (λ (k : ℕ). take at o ++ (once ∷ reg_fields k ws)) q
+pub written_more : (row got new ws : List ℕ) (once n k : ℕ) → Written row ws once n → got ≡ take (1 + 4 * n) row ++ new → new ≡ nibbles k (get_or ws (1 + 3 * n) 0) → k ≡ 4 → got ≡ once ∷ reg_fields (n + 1) ws
+written_more row got new ws once n k h e f l =
+    e
+    ∙ ap (λ (z : List ℕ). z ++ new) h
+    ∙ ap (λ (z : List ℕ). once ∷ (reg_fields n ws ++ z)) (f ∙ ap (λ (j : ℕ). nibbles j (get_or ws (1 + 3 * n) 0)) l)
+    ∙ ap (λ (j : ℕ). once ∷ reg_fields j ws) (sym (add-one n))
 
-pub written_all : (o o₁ o₂ ws : List ℕ) (at once n : ℕ) (s : St) → Packs ws s → length ws ≡ 1 + 3 * n → Written o o₁ ws at once n → take (at + (1 + 4 * n) + 8) o₂ ≡ take (at + (1 + 4 * n)) o₁ ++ nibbles 8 (get_or ws 0 0) → take (at + (9 + 4 * n)) o₂ ≡ take at o ++ (once ∷ outcome s)
-written_all o o₁ o₂ ws at once n s k l h e =
-    let p : at + (9 + 4 * n) ≡ at + (1 + 4 * n) + 8 = omega arith in
-    let c = length_pack ws s k in
-    let w = nibbles 8 (get_or ws 0 0) in
-    let r : reg_fields n ws ≡ regs_of s.threads = fields_are ws s n k (omega arith) ∙ ap regs_of (take_all n s.threads (omega arith)) in
-    ap (λ (k : ℕ). take k o₂) p
-    ∙ e
-    ∙ ap (λ (z : List ℕ). z ++ w) h
-    ∙ append_assoc (take at o) (once ∷ reg_fields n ws) w
-    ∙ ap (λ (z : List ℕ). take at o ++ (once ∷ (z ++ w))) r
-    ∙ ap (λ (z : List ℕ). take at o ++ (once ∷ (regs_of s.threads ++ z))) (memory_is ws s k)
+pub written_all : (row got new ws : List ℕ) (once n k m : ℕ) (s : St) → Packs ws s → length ws ≡ 1 + 3 * n → m ≡ n → Written row ws once m → got ≡ take (1 + 4 * n) row ++ new → new ≡ nibbles k (get_or ws 0 0) → k ≡ 8 → got ≡ once ∷ outcome s
+written_all row got new ws once n k m s p l q h e f u =
+    let c = length_pack ws s p in
+    let r : reg_fields m ws ≡ regs_of s.threads = fields_are ws s m p (omega arith) ∙ ap regs_of (take_all m s.threads (omega arith)) in
+    e
+    ∙ ap (λ (j : ℕ). take (1 + 4 * j) row ++ new) (sym q)
+    ∙ ap (λ (z : List ℕ). z ++ new) h
+    ∙ ap (λ (z : List ℕ). once ∷ (z ++ new)) r
+    ∙ ap (λ (z : List ℕ). once ∷ (regs_of s.threads ++ z)) (f ∙ ap (λ (j : ℕ). nibbles j (get_or ws 0 0)) u ∙ memory_is ws s p)
+
+-- how long the row is that stands at a place of `out`
+pub row_long : (out : List ℕ) (at w once : ℕ) → at + w ≤ length out → length (set (take (at + w - at) (drop at out)) 0 once) ≡ w
+row_long out at w once h = omega (arith, length-set (take (at + w - at) (drop at out)) 0 once, length-take (at + w - at) (drop at out), length-drop at out)

@@ -6,15 +6,13 @@ ghost use Rattle.machine.specs.Packed.{Packs};
 
 use lent::nibbles::nibble;
 
-// Writes the `k` lowest fields of `word`, from `at` on.
-fn write_fields(word: u32, k: usize, out: &mut [u32], at: usize)
-    requires few { k ≤ 8 }
-    requires room { at + k ≤ length out.old }
-    ensures written { take (at + k) out.new ≡ take at out.old ++ nibbles k word }
-    ensures behind { drop (at + k) out.new ≡ drop (at + k) out.old }
+// Writes the lowest fields of `word`, one into each place of `out`.
+fn write_fields(word: u32, out: &mut [u32])
+    requires { length out.old ≤ 8 }
+    ensures { out.new ≡ nibbles (length out.old) word }
 {
-    for f in 0..k {
-        out[at + f] = nibble(word, f as u32);
+    for (f, place) in out.iter_mut().enumerate() {
+        *place = nibble(word, f as u32);
     }
 }
 
@@ -25,9 +23,10 @@ pub fn write_outcome(threads: usize, once: u32, state: &[u32], out: &mut [u32], 
     ensures written { (s : St) → Packs state.now s → take (at + (9 + 4 * threads)) out.new ≡ take at out.old ++ (once ∷ outcome s) }
     ensures behind { drop (at + (9 + 4 * threads)) out.new ≡ drop (at + (9 + 4 * threads)) out.old }
 {
-    out[at] = once;
+    let row = &mut out[at..at + (9 + 4 * threads)];
+    row[0] = once;
     for n in 0..threads {
-        write_fields(state[1 + 3 * n], 4, out, at + (1 + 4 * n));
+        write_fields(state[1 + 3 * n], &mut row[1 + 4 * n..5 + 4 * n]);
     }
-    write_fields(state[0], 8, out, at + (1 + 4 * threads));
+    write_fields(state[0], &mut row[1 + 4 * threads..]);
 }
