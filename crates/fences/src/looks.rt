@@ -9,7 +9,7 @@ ghost use Rattle.fences.specs.Looks.{Chosen, Bad, Looked, Learned};
 use crate::listing::record;
 use graph::search::search;
 use graph::walks::walk_back;
-use guard::path::run_hits;
+use guard::hits::States;
 use guard::rule::Guarded;
 use once::finished::finished;
 use program::threads::Program;
@@ -94,12 +94,12 @@ pub fn look_at<'x>(
     requires in_from { n ≤ length from.old }
     ensures { Looked (program p.now) queue.now edges.now guards n cost.new from.new result }
 {
-    let rule = Guarded {
+    let states = States {
+        threads: p.count,
         queue,
         edges,
-        threads: p.count,
-        guards,
     };
+    let rule = Guarded { states, guards };
     search(&rule, n, 2 * p.count, cost, from);
     find_bad(p, n, queue, once, cost)
 }
@@ -122,14 +122,14 @@ pub fn learn<'x>(
     requires room { length path.old ≡ 64 }
     ensures { Learned (program p.now) queue.now guards bad path.new result.0 result.1 }
 {
-    let rule = Guarded {
+    let states = States {
+        threads: p.count,
         queue,
         edges,
-        threads: p.count,
-        guards,
     };
+    let rule = Guarded { states, guards };
     let Some(len) = walk_back(&rule, 2 * p.count, from, bad, path) else {
         return (0, 0);
     };
-    (len, run_hits(p.count, queue, edges, &path[0..len]))
+    (len, states.run_hits(&path[0..len]))
 }
