@@ -1,6 +1,6 @@
 -- Adding bits up: one instruction more, one thread more, and the sum stays below 2 ^ 32.
 use Rattle.std.proofs.Common.{◌≡◌, ℕ, zero, suc, ◌+◌, ◌-◌, ◌*◌, ◌^◌, ◌<◌, ◌≤◌, List, [], ◌∷◌, ◌++◌, length, get_or, take, sym, ap, ◌∙◌, subst, append_assoc, append-nil, add-one, arith}
-use Rattle.std.proofs.lemmas.List.{map_more, length-map, length-take-le}
+use Rattle.std.proofs.lemmas.List.{map_more, length-map, length-take-le, get_or-take}
 use Rattle.model.specs.Code.{Thread, Prog}
 use Rattle.program.specs.declared.threads.Thread as code
 use Rattle.program.specs.declared.threads.Program.{Program}
@@ -43,15 +43,19 @@ rows_push n (u ∷ p) t =
 abbrev front : (p : Program) (n : ℕ) → 1 ≤ n → n ≤ p.count → Program
 front p n a b = record { threads = p.threads; count = n; four = p.four; one = a; few = let c = p.few in omega arith }
 
-pub rows_more : (p : Program) (n : ℕ) (d : code.Thread) → n < p.count → mask_of (rows 0 (threads p.threads (n + 1))) ≡ mask_of (rows 0 (threads p.threads n)) + mask_of (row (8 * n) (get_or p.threads n d).len)
-rows_more p n d h =
+-- the slice of the threads that the program has
+pub front_long : (p : Program) → length (take p.count p.threads) ≡ p.count
+front_long p = length-take-le p.count p.threads (let f = p.four in let g = p.few in omega arith)
+
+pub rows_more : (p : Program) (n : ℕ) (t : code.Thread) → n < p.count → t ≡ get_or (take p.count p.threads) n t → mask_of (rows 0 (threads p.threads (n + 1))) ≡ mask_of (rows 0 (threads p.threads n)) + mask_of (row (8 * n) t.len)
+rows_more p n t h e =
     let four = p.four in
     let few = p.few in
     let ts = p.threads in
-    let t = get_or ts n d in
+    let is : get_or ts n t ≡ t = sym (e ∙ get_or-take p.count ts n t h) in
     let long : length (threads ts n) ≡ n = length-map (take n ts) thread ∙ length-take-le n ts (omega arith) in
     let at : 8 * (0 + length (threads ts n)) ≡ 8 * n = omega arith in
-    ap (λ (z : Prog). mask_of (rows 0 z)) (map_more thread ts n d (omega arith))
+    ap (λ (z : Prog). mask_of (rows 0 z)) (map_more thread ts n t (omega arith) ∙ ap (λ (z : code.Thread). threads ts n ++ thread z ∷ []) is)
     ∙ ap mask_of (rows_push 0 (threads ts n) (thread t))
     ∙ mask_append (rows 0 (threads ts n)) (row (8 * (0 + length (threads ts n))) (length (thread t)))
     ∙ ap (λ (z : ℕ). mask_of (rows 0 (threads ts n)) + mask_of (row z (length (thread t)))) at

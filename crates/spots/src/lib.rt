@@ -14,6 +14,7 @@ fn row_of(n: usize, len: usize) -> u32
     requires few { len ≤ 8 }
     ensures { result ≡ mask_of (row (8 * n) len) }
 {
+    // a loop, since `sum` would ask for the total to fit, and that is seen only bit by bit
     let mut bits = 0;
     for k in 0..len {
         bits += 1 << (31 - (8 * n + k));
@@ -26,8 +27,8 @@ pub fn every_spot(p: &Program) -> u32
     ensures { result ≡ every_spot (program p.now) }
 {
     let mut bits = 0;
-    for n in 0..p.count {
-        bits += row_of(n, p.threads[n].len);
+    for (n, t) in p.threads[..p.count].iter().enumerate() {
+        bits += row_of(n, t.len);
     }
     bits
 }
