@@ -41,7 +41,7 @@ fn count_finished(p: &Program, queue: &[u32], n: usize) -> usize
     ensures few { result ≤ n }
     ensures count { (cost : List ℕ) → result ≡ length (rows_from (program p.now) queue.now cost 0 n) }
 {
-    let words = 1 + 3 * p.count;
+    let words = 1 + 3 * p.count();
     let mut count = 0;
     for i in 0..n {
         if finished(p, record(queue, words, i)) {
@@ -68,14 +68,14 @@ fn write_row(
     requires room { at + length (text (one_row (program p.now) queue.now cost.now i)) ≤ length out.old }
     ensures { Wrote (text (one_row (program p.now) queue.now cost.now i)) out.old out.new at result }
 {
-    let words = 1 + 3 * p.count;
+    let words = 1 + 3 * p.count();
     let state = record(queue, words, i);
     if !finished(p, state) {
         return at;
     }
     let once = if cost[i] > 0 { 1 } else { 0 };
-    write_outcome(p.count, once, state, out, at);
-    at + (9 + 4 * p.count)
+    write_outcome(p.count(), once, state, out, at);
+    at + (9 + 4 * p.count())
 }
 
 // Writes the rows of all finished states, one after the other.
@@ -110,7 +110,7 @@ fn list_found(
     let (cost, from) = table.split_at_mut(n);
     mark_at_once(p, edges, n, cost, from);
     let count = count_finished(p, queue, n);
-    if count > out.len() / (9 + 4 * p.count) {
+    if count > out.len() / (9 + 4 * p.count()) {
         return Listed::OutFull;
     }
     write_rows(p, queue, cost, n, out);
@@ -122,11 +122,11 @@ fn list(p: &Program, out: &mut [u32], work: &mut [u32]) -> Listed
     requires { 65536 ≤ length work.old }
     ensures { ListedOf (program p.now) (length work.old) out.old out.new result }
 {
-    let words = 1 + 3 * p.count;
-    let limit = states_that_fit(p.count, work.len());
+    let words = 1 + 3 * p.count();
+    let limit = states_that_fit(p.count(), work.len());
     let (key, rest) = work.split_at_mut(words);
     let (queue, rest) = rest.split_at_mut(limit * words);
-    let (edges, table) = rest.split_at_mut(limit * (2 * p.count));
+    let (edges, table) = rest.split_at_mut(limit * (2 * p.count()));
     match explore(p, limit, queue, table, edges, key) {
         None => Listed::Crowded,
         Some(n) => list_found(p, n, queue, edges, table, out),

@@ -53,7 +53,7 @@ fn choose(
     if as_good(cost, best, i) {
         return best;
     }
-    if !finished(p, record(queue, 1 + 3 * p.count, i)) {
+    if !finished(p, record(queue, 1 + 3 * p.count(), i)) {
         return best;
     }
     Some(i)
@@ -95,12 +95,12 @@ pub fn look_at<'x>(
     ensures { Looked (program p.now) queue.now edges.now guards n cost.new from.new result }
 {
     let states = States {
-        threads: p.count,
+        threads: p.count(),
         queue,
         edges,
     };
     let rule = Guarded { states, guards };
-    search(&rule, n, 2 * p.count, cost, from);
+    search(&rule, n, 2 * p.count(), cost, from);
     find_bad(p, n, queue, once, cost)
 }
 
@@ -123,12 +123,12 @@ pub fn learn<'x>(
     ensures { Learned (program p.now) queue.now guards bad path.new result.0 result.1 }
 {
     let states = States {
-        threads: p.count,
+        threads: p.count(),
         queue,
         edges,
     };
     let rule = Guarded { states, guards };
-    let Some(len) = walk_back(&rule, 2 * p.count, from, bad, path) else {
+    let Some(len) = walk_back(&rule, 2 * p.count(), from, bad, path) else {
         return (0, 0);
     };
     (len, states.run_hits(&path[0..len]))

@@ -1,5 +1,7 @@
 // The search: one pass over the nodes, in their order. Since every edge leads ahead, a node's cost is final when the pass
-// comes to it, so that one pass finds the least costs. A cost is kept plus 1, and 0 is "not come to".
+// comes to it, so that one pass finds the least costs. In the lent words a cost is kept plus 1, and 0 is "not come to".
+// `cost` and `from` go along as two slices: each method of a struct of both would have to promise, by a clause for each, that
+// its fields still hold the caller's slices, or the caller would not know what they hold afterwards.
 ghost use Rattle.std.specs.Prelude.{◌≡◌, ◌<◌, ◌≤◌, length, drop, slice_index};
 ghost use Rattle.graph.specs.Rules.{Ahead};
 ghost use Rattle.graph.specs.Walks.{Leads};

@@ -7,7 +7,7 @@ ghost use Rattle.graph.specs.Back.{Traced, Written, Told};
 
 use crate::rules::Rule;
 
-// How many links lead from `to` back to the start.
+// How many links lead from `to` back to the start. A chain of links has no iterator of its own: `len` is what is asked for.
 fn count_links(from: &[u32], to: usize) -> usize
     requires { (d : ℕ) × Links from.now d to }
     ensures { Links from.now result to }
@@ -29,6 +29,7 @@ fn find_move<R: Rule>(rule: &R, moves: usize, node: usize, to: usize) -> usize
     ensures below { result < moves }
     ensures leads { R.next rule.now node result ≡ suc to }
 {
+    // not `find`: from its answer `None` it is not proved that the end is not come to
     for m in 0..moves {
         let edge = rule.edge(node, m);
         if edge.is_some_and(|edge| edge.target as usize == to) {

@@ -23,7 +23,8 @@ fn bit_at(thread: usize, pc: u32) -> u32
     1 << (31 - (8 * thread as u32 + pc))
 }
 
-// What the next instruction of a thread passes, by the thread's first word: nothing where no store waits.
+// What the next instruction of a thread passes, by the thread's first word: nothing where no store waits. Not by
+// `machine::standing`, whose contracts speak only of words that pack a state: here any words will do.
 fn hit_by_word(thread: usize, word: u32) -> u32
     requires { thread < 4 }
     ensures { result ≡ word_bit thread (word / 65536 % 16) (word / 1048576) }

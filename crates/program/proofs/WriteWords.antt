@@ -42,6 +42,9 @@ ok_all (t ∷ ts) =
 pub length_program : (p : Program) → length (program p) ≡ length p.threads.items
 length_program p = length-map p.threads.items thread
 
+pub few_threads : (p : Program) → length (program p) ≤ 4
+few_threads p = let e = length_program p in let f = p.few in omega arith
+
 pub program_ok : (p : Program) → T (ok (program p))
 program_ok p =
     let e = length_program p in

@@ -1,7 +1,7 @@
 -- Fields written one after another, and the registers of threads as the fields of their words.
 use Rattle.std.proofs.Common.{◌≡◌, ℕ, zero, suc, ◌+◌, ◌-◌, ◌*◌, ◌/◌, ◌%◌, ◌<◌, ◌≤◌, List, [], ◌∷◌, ◌++◌, length, get_or, take, drop, set, sym, refl, ap, ◌∙◌, add-one, arith, length-set, length-take, length-drop}
 use mathlib.Core.Option.{some}
-use Rattle.std.proofs.lemmas.List.{append_assoc, append-nil, take_more_set, take_all}
+use Rattle.std.proofs.lemmas.List.{append_assoc, append-nil, take_more_set, take_all, drop-drop}
 use Rattle.lent.specs.Nibbles.{nibbles}
 use Rattle.model.specs.Code.{nth}
 use Rattle.model.specs.Machine.{At, St, regs_of, outcome}
@@ -30,6 +30,17 @@ field_more o j w v l h e =
 
 pub fields_all : (o : List ℕ) (j k w : ℕ) → j ≡ k → length o ≡ k → take j o ≡ nibbles j w → o ≡ nibbles k w
 fields_all o j k w e l h = sym (take_all j o (omega arith)) ∙ h ∙ ap (λ (n : ℕ). nibbles n w) e
+
+-- for crates above: what is kept from one place on is kept from a later one on
+pub drop_further : (m n : ℕ) (a b : List ℕ) → m ≤ n → drop m a ≡ drop m b → drop n a ≡ drop n b
+drop_further m n a b l e =
+    let (d, p) = gap m n l in
+    ap (λ (k : ℕ). drop k a) p ∙ sym (drop-drop d m a) ∙ ap (λ (z : List ℕ). drop d z) e ∙ drop-drop d m b ∙ ap (λ (k : ℕ). drop k b) (sym p)
+  where
+    gap : (m n : ℕ) → m ≤ n → (d : ℕ) × (n ≡ m + d)
+    gap zero n l = (n, omega arith)
+    gap (suc m) zero l = absurd (omega arith)
+    gap (suc m) (suc n) l = let (d, p) = gap m n (omega arith) in (d, omega arith)
 
 -- the register fields of the first n threads' words
 abbrev pub reg_fields : ℕ → List ℕ → List ℕ

@@ -25,6 +25,7 @@ pub fn write_outcome(threads: usize, once: u32, state: &[u32], out: &mut [u32], 
 {
     let row = &mut out[at..at + (9 + 4 * threads)];
     row[0] = once;
+    // by the thread's number: in step are four places here and three words there, of which only the first is read
     for n in 0..threads {
         write_fields(state[1 + 3 * n], &mut row[1 + 4 * n..5 + 4 * n]);
     }
