@@ -6,7 +6,7 @@ ghost use Rattle.explore.specs.Post.{EnteredAs};
 use lent::table::Records;
 
 // The number of the record that is the key, which is written behind the others if it is new; none where it is new and all
-// is full.
+// is full. The limit is passed beside the records, and what it bounds is a clause, since no struct may hold `Records`.
 pub fn enter(records: &mut Records<'_, '_>, limit: usize, key: &[u32]) -> Option<usize>
     requires probed { Probed records.old.shape records.old.queue.now records.old.table.now records.old.n }
     requires room { records.old.n < records.old.shape.room }

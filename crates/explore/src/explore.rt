@@ -60,6 +60,7 @@ pub fn explore(
 {
     let mut records = start(p, limit, queue, table);
     let mut i = 0;
+    // not a range: its end would be fixed, and states come while the loop runs
     'states: while i < records.n {
         make_room(&mut records, limit);
         expand(p, &mut records, limit, i, edges, key)?;

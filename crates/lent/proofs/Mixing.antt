@@ -1,8 +1,8 @@
 -- The hash, one pair of words after the other.
-use Rattle.std.proofs.Common.{◌≡◌, ℕ, ◌+◌, ◌-◌, ◌/◌, ◌^◌, ◌<◌, ◌≤◌, List, [], ◌∷◌, length, get_or, take, drop, refl, ap, ◌∙◌, arith}
+use Rattle.std.proofs.Common.{◌≡◌, ℕ, ◌+◌, ◌-◌, ◌/◌, ◌^◌, ◌<◌, ◌≤◌, List, [], ◌∷◌, length, get_or, take, drop, ap, ◌∙◌, arith}
 use Rattle.std.proofs.lemmas.List.{take_rest}
 use Rattle.std.proofs.lemmas.Nat.{shr_below}
-use Rattle.lent.specs.Hash.{stir, spread, hash_from, hash_of}
+use Rattle.lent.specs.Hash.{stir, hash_from}
 
 -- two words are stirred in, and the words behind them are left
 pub hash_more : (ws : List ℕ) (h h' : ℕ) → 2 ≤ length ws → h' ≡ stir h (get_or ws 0 0) (get_or ws 1 0) → hash_from h' (take (length ws - 2) (drop 2 ws)) ≡ hash_from h ws

@@ -1,5 +1,5 @@
 // A table that finds records of equal width in lent words again. The records stand one after the other in one part of the
-// lent words, the queue, and the table in another; each is passed as a slice.
+// lent words, the queue, and the table in another.
 ghost use Rattle.std.specs.Prelude.{◌≡◌, ℕ, ◌+◌, ◌*◌, ◌^◌, ◌<◌, ◌≤◌, ◌==◌, length, drop, position, slice_index};
 ghost use Rattle.lent.specs.Records.{rec};
 ghost use Rattle.lent.specs.Table.{homes, places, home, Probed, Free, Stop, Inserted, SomeFree, FirstFree};
@@ -22,7 +22,8 @@ fn first_place(shape: Shape, key: &[u32]) -> usize
     (hash(key) >> (64 - shape.bits)) as usize
 }
 
-// Makes the first places free, and leaves the others as they are.
+// Makes the first places free, and leaves the others as they are. Not in `reshape`: of a part that is written through a
+// struct's own reference the check knows only how long it is.
 fn clear(table: &mut [u32], count: usize)
     requires { count ≤ length table.old }
     ensures free { (p : ℕ) → p < count → slice_index table.new p ≡ 0 }

@@ -1,7 +1,6 @@
 use Rattle.std.proofs.Common.{◌≡◌, ℕ, ◌+◌, ◌<◌, List, length, refl, sym, ap, ◌∙◌, subst, arith}
 use Rattle.lent.specs.declared.shape.Shape.{Shape}
 use Rattle.program.specs.Meaning.{program}
-use Rattle.program.proofs.WriteWords.{length_program}
 use Rattle.explore.specs.Found.{Explored}
 use Rattle.explore.specs.Post.{Between}
 use Rattle.explore.proofs.Turns.{turn, turned, explored}

@@ -1,4 +1,4 @@
-use Rattle.std.proofs.Common.{◌≡◌, ℕ, ◌+◌, ◌*◌, ◌<◌, true, false, List, length, set, Some, sym, ap, ◌∙◌, subst}
+use Rattle.std.proofs.Common.{◌≡◌, ℕ, ◌+◌, ◌*◌, true, false, List, length, set, Some, sym, ap, ◌∙◌, subst}
 use Rattle.program.specs.Meaning.{program}
 use Rattle.machine.specs.Post.{Holds, Stepped}
 use Rattle.model.specs.Machine.{move}
