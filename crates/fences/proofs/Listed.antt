@@ -27,21 +27,21 @@ all_states p q g n ex = (
 )
 
 -- the rows fit, or they don't
-pub rows_fit : (p : Program) (q g cost : List ℕ) (n k len : ℕ) → Explored (program p) q g n → k ≡ length (rows_from (program p) q cost 0 n) → k ≤ len / (9 + 4 * length (program p)) → length (text (rows_from (program p) q cost 0 n)) ≤ len
-rows_fit p q g cost n k len ex e h =
-    let w = 9 + 4 * length (program p) in
-    let a = length_all p q g cost n ex in
+pub rows_fit : (p : Program) (t : ℕ) → t ≡ length (program p) → (q g cost : List ℕ) (n k len : ℕ) → Explored (program p) q g n → k ≡ length (rows_from (program p) q cost 0 n) → k ≤ len / (9 + 4 * t) → length (text (rows_from (program p) q cost 0 n)) ≤ len
+rows_fit p t count q g cost n k len ex e h =
+    let w = 9 + 4 * t in
+    let a = length_all p t count q g cost n ex in
     let b = div-add-mod' len w in
     let m = mul-le-mul_left w h in
     let r : w * length (rows_from (program p) q cost 0 n) ≡ w * k = ap (λ z. w * z) (sym e) in
     let c : w * (len / w) ≡ len / w * w = omega arith in
     omega arith
 
-pub rows_too_long : (p : Program) (q g cost : List ℕ) (n k len : ℕ) → Explored (program p) q g n → k ≡ length (rows_from (program p) q cost 0 n) → len / (9 + 4 * length (program p)) < k → len < length (text (rows_from (program p) q cost 0 n))
-rows_too_long p q g cost n k len ex e h =
-    let w = 9 + 4 * length (program p) in
+pub rows_too_long : (p : Program) (t : ℕ) → t ≡ length (program p) → (q g cost : List ℕ) (n k len : ℕ) → Explored (program p) q g n → k ≡ length (rows_from (program p) q cost 0 n) → len / (9 + 4 * t) < k → len < length (text (rows_from (program p) q cost 0 n))
+rows_too_long p t count q g cost n k len ex e h =
+    let w = 9 + 4 * t in
     let L = length (text (rows_from (program p) q cost 0 n)) in
-    let a = length_all p q g cost n ex in
+    let a = length_all p t count q g cost n ex in
     let r : w * length (rows_from (program p) q cost 0 n) ≡ k * w = ap (λ z. w * z) (sym e) ∙ swap w k in
     elim_lt len L (λ l. let y = le-div k len w (omega arith) (omega arith) in omega arith)
   where

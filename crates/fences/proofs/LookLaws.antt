@@ -11,7 +11,7 @@ use Rattle.model.proofs.Tools.{T_true, and_both}
 use Rattle.model.proofs.RunLength.{run_length}
 use Rattle.program.specs.declared.threads.Program.{Program}
 use Rattle.program.specs.Meaning.{program}
-use Rattle.program.proofs.WriteWords.{few_threads, program_ok}
+use Rattle.program.proofs.WriteWords.{program_ok}
 use Rattle.graph.specs.Rules.{kept, Ahead}
 use Rattle.graph.specs.Walks.{Walk}
 use Rattle.graph.specs.Search.{Marked, Searched}
@@ -70,51 +70,51 @@ walk_below : (next : ℕ → ℕ → ℕ) (n : ℕ) (ms : List ℕ) (i j : ℕ) 
 walk_below next n [] i j w = tt
 walk_below next n (m ∷ ms) i j w = (w.1, walk_below next n ms w.0 j w.3)
 
-module _ (p : Program) (q g : List ℕ) (guards n : ℕ) (x : Explored (program p) q g n) where
+module _ (p : Program) (t : ℕ) (count : t ≡ length (program p)) (few : t ≤ 4) (q g : List ℕ) (guards n : ℕ) (x : Explored (program p) q g n) where
   -- what is asked of the rule
-  pub may_search : n * moves_of (length (program p)) ≤ length g → Ahead (Askable length (program p) q g) (guarded length (program p) q g guards) (2 * length (program p)) n
+  pub may_search : n * moves_of (length (program p)) ≤ length g → Ahead (Askable t q g) (guarded t q g guards) (2 * t) n
   may_search room =
-      guarded_ahead (program p) q g n length (program p) refl x guards few_threads p (subst (λ (z : ℕ). n * moves_of z ≤ length g) refl room)
+      guarded_ahead (program p) q g n t (sym count) x guards few (subst (λ (z : ℕ). n * moves_of z ≤ length g) (sym count) room)
 
-  searched_count : (cost from : List ℕ) → Searched (guarded (length (program p)) q g guards) (moves_of (length (program p))) n cost from → Searched (guarded length (program p) q g guards) (2 * length (program p)) n cost from
-  searched_count cost from = subst (λ (z : ℕ). Searched (guarded z q g guards) (moves_of z) n cost from) refl
+  searched_count : (cost from : List ℕ) → Searched (guarded (length (program p)) q g guards) (moves_of (length (program p))) n cost from → Searched (guarded t q g guards) (2 * t) n cost from
+  searched_count cost from = subst (λ (z : ℕ). Searched (guarded z q g guards) (moves_of z) n cost from) (sym count)
 
-  pub count_searched : (cost from : List ℕ) → Searched (guarded length (program p) q g guards) (2 * length (program p)) n cost from → Searched (guarded (length (program p)) q g guards) (moves_of (length (program p))) n cost from
-  count_searched cost from = subst (λ (z : ℕ). Searched (guarded z q g guards) (moves_of z) n cost from) (sym refl)
+  pub count_searched : (cost from : List ℕ) → Searched (guarded t q g guards) (2 * t) n cost from → Searched (guarded (length (program p)) q g guards) (moves_of (length (program p))) n cost from
+  count_searched cost from = subst (λ (z : ℕ). Searched (guarded z q g guards) (moves_of z) n cost from) count
 
-  pub may_walk : (cost from : List ℕ) (bad : ℕ) → n * moves_of (length (program p)) ≤ length g → n ≤ length from → Bad (program p) q g guards n cost from bad → Traced (Askable length (program p) q g) (guarded length (program p) q g guards) (2 * length (program p)) from bad
+  pub may_walk : (cost from : List ℕ) (bad : ℕ) → n * moves_of (length (program p)) ≤ length g → n ≤ length from → Bad (program p) q g guards n cost from bad → Traced (Askable t q g) (guarded t q g guards) (2 * t) from bad
   may_walk cost from bad room held b =
-      traced_from (Askable length (program p) q g) (guarded length (program p) q g guards) (2 * length (program p)) n cost from bad (may_search room) held (searched_count cost from b.searched) b.below b.marked
+      traced_from (Askable t q g) (guarded t q g guards) (2 * t) n cost from bad (may_search room) held (searched_count cost from b.searched) b.below b.marked
 
-  walk_count : (ms : List ℕ) (bad : ℕ) → Walk (guarded length (program p) q g guards) (2 * length (program p)) 0 ms bad → Walk (guarded (length (program p)) q g guards) (moves_of (length (program p))) 0 ms bad
-  walk_count ms bad = subst (λ (z : ℕ). Walk (guarded z q g guards) (moves_of z) 0 ms bad) (sym refl)
+  walk_count : (ms : List ℕ) (bad : ℕ) → Walk (guarded t q g guards) (2 * t) 0 ms bad → Walk (guarded (length (program p)) q g guards) (moves_of (length (program p))) 0 ms bad
+  walk_count ms bad = subst (λ (z : ℕ). Walk (guarded z q g guards) (moves_of z) 0 ms bad) count
 
-  walk_few : (ms : List ℕ) (bad : ℕ) → Walk (guarded length (program p) q g guards) (2 * length (program p)) 0 ms bad → length ms ≤ 64
+  walk_few : (ms : List ℕ) (bad : ℕ) → Walk (guarded t q g guards) (2 * t) 0 ms bad → length ms ≤ 64
   walk_few ms bad w =
       let r = walk_moves (program p) q g n (length (program p)) refl x guards ms bad (walk_count ms bad w) in
       let l = few_moves p (map (move_of (length (program p))) ms) _ r in
       let k = length-map ms (move_of (length (program p))) in
       omega arith
 
-  pub never_long : (bad : ℕ) (was path : List ℕ) → length was ≡ 64 → TooLong (guarded length (program p) q g guards) (2 * length (program p)) bad was path → ⊥
+  pub never_long : (bad : ℕ) (was path : List ℕ) → length was ≡ 64 → TooLong (guarded t q g guards) (2 * t) bad was path → ⊥
   never_long bad was path e t =
       let (ms, l, w) = t.walk in
       let k = walk_few ms bad w in
       omega arith
 
-  pub learned : (bad : ℕ) (was path cut : List ℕ) (len clause : ℕ) → length path ≡ 64 → Written (guarded length (program p) q g guards) (2 * length (program p)) bad len was path → cut ≡ take len path → AllHits length (program p) q g cut clause → Learned (program p) q guards bad path len clause
+  pub learned : (bad : ℕ) (was path cut : List ℕ) (len clause : ℕ) → length path ≡ 64 → Written (guarded t q g guards) (2 * t) bad len was path → cut ≡ take len path → AllHits t q g cut clause → Learned (program p) q guards bad path len clause
   learned bad was path cut len clause e w c a =
-      let t = length (program p) in
+      let u = length (program p) in
       let ms = take len path in
       let v = walk_count ms bad w.walk in
-      let h : AllHits t q g ms clause = subst (λ (z : ℕ). AllHits z q g ms clause) (sym refl) (subst (λ (z : List ℕ). AllHits length (program p) q g z clause) c a) in
-      let is : clause ≡ mask (hits (program p) (begin (program p)) (map (move_of t) ms)) =
-      h (program p) n bad refl x (walk_fewer (guarded t q g guards) (kept g (moves_of t)) (moves_of t) (guarded_fewer t q g guards) ms 0 bad v) in
+      let h : AllHits u q g ms clause = subst (λ (z : ℕ). AllHits z q g ms clause) count (subst (λ (z : List ℕ). AllHits t q g z clause) c a) in
+      let is : clause ≡ mask (hits (program p) (begin (program p)) (map (move_of u) ms)) =
+      h (program p) n bad refl x (walk_fewer (guarded u q g guards) (kept g (moves_of u)) (moves_of u) (guarded_fewer u q g guards) ms 0 bad v) in
       let f = w.fits in
       record {
         few = omega arith;
-        run = walk_moves (program p) q g n t refl x guards ms bad v;
+        run = walk_moves (program p) q g n u refl x guards ms bad v;
         clause = is;
-        new = ap (λ (z : ℕ). bit_and z guards) is ∙ walk_clear (program p) q g n t refl x guards ms bad v;
-        numbers = walk_below (guarded t q g guards) (moves_of t) ms 0 bad v;
+        new = ap (λ (z : ℕ). bit_and z guards) is ∙ walk_clear (program p) q g n u refl x guards ms bad v;
+        numbers = walk_below (guarded u q g guards) (moves_of u) ms 0 bad v;
       }

@@ -7,7 +7,6 @@ use Rattle.model.specs.Code.{pick, Prog}
 use Rattle.model.specs.Machine.{At, St, outcome, regs_of}
 use Rattle.program.specs.declared.threads.Program.{Program}
 use Rattle.program.specs.Meaning.{program}
-use Rattle.program.proofs.WriteWords.{few_threads}
 use Rattle.model.proofs.Levels.{run_threads}
 use Rattle.machine.specs.Packed.{Packs, WithinTs}
 use Rattle.explore.specs.Found.{width, state, Explored}
@@ -16,23 +15,23 @@ use Rattle.fences.specs.Listing.{Row, text}
 use Rattle.fences.specs.Rows.{row_of, done_at, one_row, rows_from, Wrote}
 
 -- a program's state has its words in the queue
-pub words_of : (p : Program) → 1 + 3 * length (program p) ≡ width (length (program p))
-words_of p = ap (λ n. 1 + 3 * n) (sym refl)
+pub words_of : (p : Program) (t : ℕ) → t ≡ length (program p) → 1 + 3 * t ≡ width (length (program p))
+words_of p t e = ap (λ n. 1 + 3 * n) e
 
-pub record_within : (p : Program) (q : List ℕ) (n i : ℕ) → i < n → n * width (length (program p)) ≤ length q → i * (1 + 3 * length (program p)) + (1 + 3 * length (program p)) ≤ length q
-record_within p q n i h l =
-    subst (λ w. i * w + w ≤ length q) (sym (words_of p)) (words_within i n n (width (length (program p))) (length q) h (omega arith) l)
+pub record_within : (p : Program) (t : ℕ) → t ≡ length (program p) → (q : List ℕ) (n i : ℕ) → i < n → n * width (length (program p)) ≤ length q → i * (1 + 3 * t) + (1 + 3 * t) ≤ length q
+record_within p t count q n i h l =
+    subst (λ w. i * w + w ≤ length q) (sym (words_of p t count)) (words_within i n n (width (length (program p))) (length q) h (omega arith) l)
 
-pub record_is : (p : Program) (q r : List ℕ) (i : ℕ) → r ≡ rec q (1 + 3 * length (program p)) i → r ≡ rec q (width (length (program p))) i
-record_is p q r i e = e ∙ ap (λ w. rec q w i) (words_of p)
+pub record_is : (p : Program) (t : ℕ) → t ≡ length (program p) → (q r : List ℕ) (i : ℕ) → r ≡ rec q (1 + 3 * t) i → r ≡ rec q (width (length (program p))) i
+record_is p t count q r i e = e ∙ ap (λ w. rec q w i) (words_of p t count)
 
-pub record_long : (p : Program) (q r : List ℕ) (n i : ℕ) → i < n → n * width (length (program p)) ≤ length q → r ≡ rec q (1 + 3 * length (program p)) i → length r ≡ width (length (program p))
-record_long p q r n i h l e =
+pub record_long : (p : Program) (t : ℕ) → t ≡ length (program p) → (q r : List ℕ) (n i : ℕ) → i < n → n * width (length (program p)) ≤ length q → r ≡ rec q (1 + 3 * t) i → length r ≡ width (length (program p))
+record_long p t count q r n i h l e =
     let w = width (length (program p)) in
-    ap length (record_is p q r i e) ∙ length_rec q w i (words_within i n n w (length q) h (omega arith) l)
+    ap length (record_is p t count q r i e) ∙ length_rec q w i (words_within i n n w (length q) h (omega arith) l)
 
-pub record_packs : (p : Program) (q g r : List ℕ) (n i : ℕ) → Explored (program p) q g n → i < n → r ≡ rec q (1 + 3 * length (program p)) i → Packs r (state (length (program p)) q i)
-record_packs p q g r n i ex h e = subst (λ ws. Packs ws (state (length (program p)) q i)) (sym (record_is p q r i e)) (ex.found.good i h)
+pub record_packs : (p : Program) (t : ℕ) → t ≡ length (program p) → (q g r : List ℕ) (n i : ℕ) → Explored (program p) q g n → i < n → r ≡ rec q (1 + 3 * t) i → Packs r (state (length (program p)) q i)
+record_packs p t count q g r n i ex h e = subst (λ ws. Packs ws (state (length (program p)) q i)) (sym (record_is p t count q r i e)) (ex.found.good i h)
 
 module _ (p : Prog) (q cost : List ℕ) where
   pub rows_step : (i n : ℕ) → i < n → rows_from p q cost i (n - i) ≡ pick (done_at p q i) (row_of p q cost i ∷ rows_from p q cost (i + 1) (n - (i + 1))) (rows_from p q cost (i + 1) (n - (i + 1)))
@@ -114,24 +113,23 @@ length_one p q cost i d =
     ap (λ (b : Bool). length (text (pick b (row_of p q cost i ∷ []) []))) d ∙ ap length (append-nil ((row_of p q cost i).once ∷ outcome (state (length p) q i)))
 
 -- an outcome of a state found
-pub length_found : (p : Program) (q g : List ℕ) (n i : ℕ) → Explored (program p) q g n → i < n → length (outcome (state (length (program p)) q i)) ≡ 8 + 4 * length (program p)
-length_found p q g n i ex h =
+pub length_found : (p : Program) (t : ℕ) → t ≡ length (program p) → (q g : List ℕ) (n i : ℕ) → Explored (program p) q g n → i < n → length (outcome (state (length (program p)) q i)) ≡ 8 + 4 * t
+length_found p t count q g n i ex h =
     let (ms, r) = ex.found.come i h in
     let l = run_threads (program p) ms (state (length (program p)) q i) r in
     let e = length_outcome (rec q (width (length (program p))) i) (state (length (program p)) q i) (ex.found.good i h) in
-    let k = refl in
     omega arith
 
-length_rows : (p : Program) (q g cost : List ℕ) (n k i : ℕ) → Explored (program p) q g n → i + k ≤ n → length (text (rows_from (program p) q cost i k)) ≡ (9 + 4 * length (program p)) * length (rows_from (program p) q cost i k)
-length_rows p q g cost n zero i ex h = omega arith
-length_rows p q g cost n (suc k) i ex h =
-    let rest = length_rows p q g cost n k (suc i) ex (omega arith) in
-    by_row (done_at (program p) q i) (row_of (program p) q cost i) (rows_from (program p) q cost (suc i) k) (length_found p q g n i ex (omega arith)) rest
+length_rows : (p : Program) (t : ℕ) → t ≡ length (program p) → (q g cost : List ℕ) (n k i : ℕ) → Explored (program p) q g n → i + k ≤ n → length (text (rows_from (program p) q cost i k)) ≡ (9 + 4 * t) * length (rows_from (program p) q cost i k)
+length_rows p t count q g cost n zero i ex h = omega arith
+length_rows p t count q g cost n (suc k) i ex h =
+    let rest = length_rows p t count q g cost n k (suc i) ex (omega arith) in
+    by_row (done_at (program p) q i) (row_of (program p) q cost i) (rows_from (program p) q cost (suc i) k) (length_found p t count q g n i ex (omega arith)) rest
   where
-    by_row : (b : Bool) (r : Row) (rs : List Row) → length r.outcome ≡ 8 + 4 * length (program p) → length (text rs) ≡ (9 + 4 * length (program p)) * length rs → length (text (pick b (r ∷ rs) rs)) ≡ (9 + 4 * length (program p)) * length (pick b (r ∷ rs) rs)
-    by_row true r rs l e = let a = length-append (r.once ∷ r.outcome) (text rs) in let m = mul-suc (9 + 4 * length (program p)) (length rs) in omega arith
+    by_row : (b : Bool) (r : Row) (rs : List Row) → length r.outcome ≡ 8 + 4 * t → length (text rs) ≡ (9 + 4 * t) * length rs → length (text (pick b (r ∷ rs) rs)) ≡ (9 + 4 * t) * length (pick b (r ∷ rs) rs)
+    by_row true r rs l e = let a = length-append (r.once ∷ r.outcome) (text rs) in let m = mul-suc (9 + 4 * t) (length rs) in omega arith
     by_row false r rs l e = e
 
 -- how many words all rows take
-pub length_all : (p : Program) (q g cost : List ℕ) (n : ℕ) → Explored (program p) q g n → length (text (rows_from (program p) q cost 0 n)) ≡ (9 + 4 * length (program p)) * length (rows_from (program p) q cost 0 n)
-length_all p q g cost n ex = length_rows p q g cost n n 0 ex (omega arith)
+pub length_all : (p : Program) (t : ℕ) → t ≡ length (program p) → (q g cost : List ℕ) (n : ℕ) → Explored (program p) q g n → length (text (rows_from (program p) q cost 0 n)) ≡ (9 + 4 * t) * length (rows_from (program p) q cost 0 n)
+length_all p t count q g cost n ex = length_rows p t count q g cost n n 0 ex (omega arith)

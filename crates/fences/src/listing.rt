@@ -68,14 +68,14 @@ fn write_row(
     requires room { at + length (text (one_row (program p.now) queue.now cost.now i)) ≤ length out.old }
     ensures { Wrote (text (one_row (program p.now) queue.now cost.now i)) out.old out.new at result }
 {
-    let words = 1 + 3 * p.count();
-    let state = record(queue, words, i);
+    let threads = p.count();
+    let state = record(queue, 1 + 3 * threads, i);
     if !finished(p, state) {
         return at;
     }
     let once = if cost[i] > 0 { 1 } else { 0 };
-    write_outcome(p.count(), once, state, out, at);
-    at + (9 + 4 * p.count())
+    write_outcome(threads, once, state, out, at);
+    at + (9 + 4 * threads)
 }
 
 // Writes the rows of all finished states, one after the other.
@@ -122,11 +122,12 @@ fn list(p: &Program, out: &mut [u32], work: &mut [u32]) -> Listed
     requires { 65536 ≤ length work.old }
     ensures { ListedOf (program p.now) (length work.old) out.old out.new result }
 {
-    let words = 1 + 3 * p.count();
-    let limit = states_that_fit(p.count(), work.len());
+    let threads = p.count();
+    let words = 1 + 3 * threads;
+    let limit = states_that_fit(threads, work.len());
     let (key, rest) = work.split_at_mut(words);
     let (queue, rest) = rest.split_at_mut(limit * words);
-    let (edges, table) = rest.split_at_mut(limit * (2 * p.count()));
+    let (edges, table) = rest.split_at_mut(limit * (2 * threads));
     match explore(p, limit, queue, table, edges, key) {
         None => Listed::Crowded,
         Some(n) => list_found(p, n, queue, edges, table, out),

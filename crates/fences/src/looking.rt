@@ -64,11 +64,12 @@ fn look_in(p: &Program, out: &mut [u32], work: &mut [u32]) -> Looked
     requires { 65536 ≤ length work.old }
     ensures { LookedOf (program p.now) (length work.old) out.old out.new result }
 {
-    let words = 1 + 3 * p.count();
-    let limit = states_that_fit(p.count(), work.len());
+    let threads = p.count();
+    let words = 1 + 3 * threads;
+    let limit = states_that_fit(threads, work.len());
     let (key, rest) = work.split_at_mut(words);
     let (queue, rest) = rest.split_at_mut(limit * words);
-    let (edges, table) = rest.split_at_mut(limit * (2 * p.count()));
+    let (edges, table) = rest.split_at_mut(limit * (2 * threads));
     match explore(p, limit, queue, table, edges, key) {
         None => Looked::Crowded,
         Some(n) => look_found(p, n, queue, edges, table, out),

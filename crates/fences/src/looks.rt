@@ -94,13 +94,14 @@ pub fn look_at<'x>(
     requires in_from { n ≤ length from.old }
     ensures { Looked (program p.now) queue.now edges.now guards n cost.new from.new result }
 {
+    let threads = p.count();
     let states = States {
-        threads: p.count(),
+        threads,
         queue,
         edges,
     };
     let rule = Guarded { states, guards };
-    search(&rule, n, 2 * p.count(), cost, from);
+    search(&rule, n, 2 * threads, cost, from);
     find_bad(p, n, queue, once, cost)
 }
 
@@ -122,13 +123,14 @@ pub fn learn<'x>(
     requires room { length path.old ≡ 64 }
     ensures { Learned (program p.now) queue.now guards bad path.new result.0 result.1 }
 {
+    let threads = p.count();
     let states = States {
-        threads: p.count(),
+        threads,
         queue,
         edges,
     };
     let rule = Guarded { states, guards };
-    let Some(len) = walk_back(&rule, 2 * p.count(), from, bad, path) else {
+    let Some(len) = walk_back(&rule, 2 * threads, from, bad, path) else {
         return (0, 0);
     };
     (len, states.run_hits(&path[0..len]))

@@ -7,10 +7,10 @@ use Rattle.fences.proofs.listing.count_finished.Goals as goal
 use Rattle.fences.proofs.listing.count_finished.Goals.{then-finished, else-finished}
 
 pub record-requires : goal.record-requires
-record-requires c = record_within c.args.p.now c.args.queue.now c.args.n c.loop-i.i c.loop-i-test.true c.requires.held
+record-requires c = record_within c.args.p.now _ c.count.ensures.value c.args.queue.now c.args.n c.loop-i.i c.loop-i-test.true c.requires.held
 
 pub finished-requires : goal.finished-requires
-finished-requires c = record_long c.args.p.now c.args.queue.now _ c.args.n c.loop-i.i c.loop-i-test.true c.requires.held c.record.ensures
+finished-requires c = record_long c.args.p.now _ c.count.ensures.value c.args.queue.now _ c.args.n c.loop-i.i c.loop-i-test.true c.requires.held c.record.ensures
 
 pub loop-i-preserved : goal.loop-i-preserved
 loop-i-preserved c =
@@ -19,7 +19,7 @@ loop-i-preserved c =
     let i = c.loop-i.i in
     let (g, ex) = c.requires.explored in
     let b = c.loop-i.invariant.0 in
-    let packs = record_packs p q g _ c.args.n i ex c.loop-i-test.true c.record.ensures in
+    let packs = record_packs p _ c.count.ensures.value q g _ c.args.n i ex c.loop-i-test.true c.record.ensures in
     let st = state (length (program p)) q i in
     elim c.if-finished.branch [
       | then-finished w ↦

@@ -22,7 +22,7 @@ returns-then-count-out c =
     let cost = c.mark_at_once.new.cost in (
       rows_from (program p) q cost 0 c.args.n,
       lists (program p) q c.args.edges.now cost c.args.n c.requires.explored (c.mark_at_once.ensures.marks q c.requires.explored),
-      rows_too_long p q c.args.edges.now cost c.args.n c.count_finished-count.result (length c.args.out.now) c.requires.explored (c.count_finished-count.ensures.count cost) c.if-count-out.true,
+      rows_too_long p _ c.count.ensures.value q c.args.edges.now cost c.args.n c.count_finished-count.result (length c.args.out.now) c.requires.explored (c.count_finished-count.ensures.count cost) c.if-count-out.true,
       refl,
     )
 
@@ -37,7 +37,7 @@ write_rows-requires c =
       explored = (c.args.edges.now, c.requires.explored);
       held = c.requires.held;
       marked = omega arith;
-      room = rows_fit p q c.args.edges.now cost c.args.n c.count_finished-count.result (length c.args.out.now) c.requires.explored (c.count_finished-count.ensures.count cost) c.if-count-out.false;
+      room = rows_fit p _ c.count.ensures.value q c.args.edges.now cost c.args.n c.count_finished-count.result (length c.args.out.now) c.requires.explored (c.count_finished-count.ensures.count cost) c.if-count-out.false;
     }
 
 pub returns : goal.returns

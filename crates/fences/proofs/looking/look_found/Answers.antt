@@ -1,6 +1,5 @@
 use Rattle.std.proofs.Common.{ℕ, ◌*◌, ◌≤◌, map, length, take, sym, refl, ap, arith}
 use Rattle.program.specs.Meaning.{program}
-use Rattle.program.proofs.WriteWords.{length_program}
 use Rattle.explore.specs.Found.{move_of}
 use Rattle.spots.specs.Masks.{spots}
 use Rattle.fences.specs.Told.{text_ss}
@@ -34,10 +33,10 @@ write_moves-requires c =
     let m = c.learn-moves.result.0 in
     let few = l.few in
     let n = cut_length m c.learn-moves.new.path (omega arith) in
-    let e = length_program p in
+    let e = sym c.count.ensures.value in
     let o = c.if-out-lt256.false in
     record {
-      few = p.few;
+      few = c.count.ensures.few;
       below = cut_below _ _ m c.learn-moves.new.path (ap (λ (z : ℕ). 2 * z) e) l.numbers;
       room = omega arith;
     }
@@ -60,6 +59,6 @@ returns c =
       c.fewest-fences.ensures,
       run_length (length pr) m path h,
       f.count,
-      all_written p.count (length pr) m c.write_fences-count.result path c.args.out.now c.write_moves.new.out c.write_fences-count.new.out (text_ss (spots c.fewest-fences.result)) (sym (length_program p)) h c.write_moves.ensures.written f.written,
+      all_written c.count.result (length pr) m c.write_fences-count.result path c.args.out.now c.write_moves.new.out c.write_fences-count.new.out (text_ss (spots c.fewest-fences.result)) c.count.ensures.value h c.write_moves.ensures.written f.written,
       rest_kept m c.write_fences-count.result path c.args.out.now c.write_moves.new.out c.write_fences-count.new.out h c.write_moves.ensures.behind f.behind,
     )

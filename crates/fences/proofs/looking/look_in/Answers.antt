@@ -1,6 +1,5 @@
 use Rattle.std.proofs.Common.{ℕ, ◌*◌, ◌≤◌, length, sym, refl, subst, mul-le-mul_right, arith}
 use Rattle.program.specs.Meaning.{program}
-use Rattle.program.proofs.WriteWords.{length_program}
 use Rattle.explore.specs.Found.{width, moves_of}
 use Rattle.fences.proofs.Listed.{crowded_too}
 use Rattle.fences.proofs.Answered.{looked_of}
@@ -12,7 +11,7 @@ explore-requires c =
     let limit = c.states_that_fit-limit.result in
     let f = c.states_that_fit-limit.ensures in
     let fits = f.fits in
-    let l = length_program p in
+    let l = sym c.count-threads.ensures.value in
     let k1 = c.split_at_mut-key.ensures.front_len in
     let k2 = c.split_at_mut-key.ensures.back_len in
     let q1 = c.split_at_mut-queue.ensures.front_len in
@@ -35,7 +34,7 @@ look_found-requires c =
     let limit = c.states_that_fit-limit.result in
     let f = c.states_that_fit-limit.ensures in
     let fits = f.fits in
-    let l = length_program p in
+    let l = sym c.count-threads.ensures.value in
     let n = c.in-Some.n in
     let few = c.in-Some.ensures.1 in
     let k2 = c.split_at_mut-key.ensures.back_len in
@@ -46,8 +45,8 @@ look_found-requires c =
     let kq = c.explore.auto.queue in
     let ke = c.explore.auto.edges in
     let kt = c.explore.auto.table in
-    let a = mul-le-mul_right (width p.count) few in
-    let b = mul-le-mul_right (moves_of p.count) few in
+    let a = mul-le-mul_right (width c.count-threads.result) few in
+    let b = mul-le-mul_right (moves_of c.count-threads.result) few in
     record {
       explored = c.in-Some.ensures.0;
       held = subst (λ (z : ℕ). n * width z ≤ length c.explore.new.queue) (sym l) (omega arith);

@@ -7,17 +7,17 @@ use Rattle.fences.proofs.LookLaws.{chosen_skip}
 use Rattle.fences.proofs.looks.choose.Goals as goal
 
 pub record-requires : goal.record-requires
-record-requires c = record_within c.args.p.now c.args.queue.now c.args.n c.args.i c.requires.below c.requires.held
+record-requires c = record_within c.args.p.now _ c.count.ensures.value c.args.queue.now c.args.n c.args.i c.requires.below c.requires.held
 
 pub finished-requires : goal.finished-requires
-finished-requires c = record_long c.args.p.now c.args.queue.now _ c.args.n c.args.i c.requires.below c.requires.held c.record.ensures
+finished-requires c = record_long c.args.p.now _ c.count.ensures.value c.args.queue.now _ c.args.n c.args.i c.requires.below c.requires.held c.record.ensures
 
 pub returns-then-not-finished : goal.returns-then-not-finished
 returns-then-not-finished c =
     let p = c.args.p.now in
     let q = c.args.queue.now in
     let (g, ex) = c.requires.explored in
-    let packs = record_packs p q g _ c.args.n c.args.i ex c.requires.below c.record.ensures in
+    let packs = record_packs p _ c.count.ensures.value q g _ c.args.n c.args.i ex c.requires.below c.record.ensures in
     let d = c.if-not-finished.ensures (state (length (program p)) q c.args.i) packs in
     chosen_skip (program p) q c.args.once.now c.args.cost.now c.args.i c.args.best c.requires.best (λ e m. absurd (false_true (d ∙ e)))
 
@@ -26,6 +26,6 @@ returns c =
     let p = c.args.p.now in
     let q = c.args.queue.now in
     let (g, ex) = c.requires.explored in
-    let packs = record_packs p q g _ c.args.n c.args.i ex c.requires.below c.record.ensures in
+    let packs = record_packs p _ c.count.ensures.value q g _ c.args.n c.args.i ex c.requires.below c.record.ensures in
     let d = c.if-not-finished.ensures (state (length (program p)) q c.args.i) packs in
     (omega arith, sym d, omega arith, λ m. omega arith)

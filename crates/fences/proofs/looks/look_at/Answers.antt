@@ -6,7 +6,7 @@ pub search-requires : goal.search-requires
 search-requires c =
     let x = c.requires.explored in
     record {
-      ahead = may_search c.args.p.now c.args.queue.now c.args.edges.now c.args.guards c.args.n x c.requires.kept;
+      ahead = may_search c.args.p.now _ c.count-threads.ensures.value c.count-threads.ensures.few c.args.queue.now c.args.edges.now c.args.guards c.args.n x c.requires.kept;
       some = x.found.some_found;
       in_cost = c.requires.in_cost;
       in_from = c.requires.in_from;
@@ -19,4 +19,4 @@ returns c =
     let g = c.args.edges.now in
     let x = c.requires.explored in
     looked (program p) q g c.args.once.now c.args.guards c.args.n c.search.new.cost c.search.new.from c.find_bad.result x c.requires.marks
-    (count_searched p q g c.args.guards c.args.n x c.search.new.cost c.search.new.from c.search.ensures.searched) c.find_bad.ensures
+    (count_searched (c.args.p.now) _ c.count-threads.ensures.value c.count-threads.ensures.few q g c.args.guards c.args.n x c.search.new.cost c.search.new.from c.search.ensures.searched) c.find_bad.ensures
