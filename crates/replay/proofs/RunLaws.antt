@@ -1,47 +1,27 @@
 -- Runs that go on by one more move, and moves by the words that tell them.
 use Rattle.std.proofs.Common.{◌≡◌, ℕ, ◌+◌, ◌-◌, ◌*◌, ◌<◌, ◌≤◌, Bool, true, false, List, [], ◌∷◌, ◌++◌, length, get_or, take, drop, replicate, sym, refl, ap, ◌∙◌, subst, arith}
 use mathlib.Core.Option.{Option, some, none}
-use borrow.Rule.Slice.PartMut.{mid_of, put_mid}
-use Rattle.std.proofs.lemmas.Bool.{lt-ltb, le-ltb}
+use borrow.Rule.Slice.PartMut.{put_mid}
 use Rattle.std.proofs.lemmas.List.{take-replicate, take-append-drop, map-append, map_more}
-use Rattle.model.specs.Code.{pick, opt, nth, Prog}
-use Rattle.model.specs.Machine.{St, Move, next, out, move, moves, begin}
+use Rattle.model.specs.Code.{opt, Prog}
+use Rattle.model.specs.Machine.{St, Move, move, moves, begin}
 use Rattle.model.proofs.Levels.{run_more}
 use Rattle.model.proofs.Tools.{false_true, none_some, some_is, opt_some, opt_is}
-use Rattle.program.proofs.Lookup.{nth_past}
+use Rattle.machine.specs.Meaning.{numbered}
 use Rattle.machine.specs.Packed.{Packs}
-use Rattle.machine.specs.Post.{Holds, Stepped}
-use Rattle.machine.proofs.StateLaws.{same_count}
+use Rattle.machine.specs.Post.{Stepped}
 use Rattle.machine.proofs.Unpacking.{start_packs}
-use Rattle.replay.proofs.StateWords.{part_is, written_is}
+use Rattle.replay.proofs.StateWords.{written_is}
 use Rattle.replay.specs.Runs.{move_told, told, Comes, Reached, Ran, Made}
 
-pub told_next : (w : ℕ) → w < 4 → move_told w ≡ next w
-told_next w h = ap (λ (b : Bool). pick b (next w) (out (w - 4))) (lt-ltb w 4 h)
-
-pub told_out : (w : ℕ) → 4 ≤ w → move_told w ≡ out (w - 4)
-told_out w h = ap (λ (b : Bool). pick b (next w) (out (w - 4))) (le-ltb w 4 h)
-
 -- a step by the move that a word tells
-pub by_told : (p : Prog) (w : ℕ) (m : Move) (ws : List ℕ) (r : Bool) (ws' : List ℕ) → move_told w ≡ m → Stepped (λ s. move p s m) ws r ws' → Stepped (λ s. move p s (move_told w)) ws r ws'
-by_told p w m ws r ws' e h = subst (λ (z : Move). Stepped (λ s. move p s z) ws r ws') (sym e) h
+pub told_step : (p q : Prog) (w : ℕ) (v : Move) (ws us : List ℕ) (r : Bool) (ys : List ℕ) → q ≡ p → us ≡ ws → v ≡ numbered 4 w → Stepped (λ s. move q s v) us r ys → Stepped (λ s. move p s (move_told w)) ws r ys
+told_step p q w v ws us r ys e f g h =
+    subst (λ (z : Prog). Stepped (λ s. move z s (move_told w)) ws r ys) e
+    (subst (λ (z : List ℕ). Stepped (λ s. move q s (move_told w)) z r ys) f (subst (λ (z : Move). Stepped (λ s. move q s z) us r ys) g h))
 
 of_none : {A C : Type 0} (o : Option A) (f : A → Option C) → o ≡ none → opt o none f ≡ none
 of_none o f e = ap (λ z. opt z none f) e
-
--- a state that the words hold has the program's threads
-no_thread : (p : Prog) (ws : List ℕ) (n : ℕ) (s : St) → Holds p ws → Packs ws s → length p ≤ n → nth s.threads n ≡ none
-no_thread p ws n s h k l =
-    let (t, kt, lt) = h in
-    let e = same_count ws s t k kt in
-    nth_past s.threads n (omega arith)
-
--- what no thread does can't be done
-pub no_next : (p : Prog) (ws ws' : List ℕ) (n : ℕ) → Holds p ws → length p ≤ n → Stepped (λ s. move p s (next n)) ws false ws'
-no_next p ws ws' n h l s k = of_none (nth s.threads n) _ (no_thread p ws n s h k l)
-
-pub no_out : (p : Prog) (ws ws' : List ℕ) (n : ℕ) → Holds p ws → length p ≤ n → Stepped (λ s. move p s (out n)) ws false ws'
-no_out p ws ws' n h l s k = of_none (nth s.threads n) _ (no_thread p ws n s h k l)
 
 -- moves behind a run are made from where it comes to
 moves_on : (p : Prog) (s t : St) (ms ns : List Move) → moves p s ms ≡ some t → moves p s (ms ++ ns) ≡ moves p t ns
@@ -78,10 +58,10 @@ pub reached_more : (p : Prog) (w : ℕ) (ws ws' : List ℕ) → Made p w ws true
 reached_more p w ws ws' m r = let (ms, z) = r in (ms ++ move_told w ∷ [], m.onward ms z)
 
 -- the first state
-pub begins : (p : Prog) (n : ℕ) → length p ≡ n → n ≤ 4 → Comes p [] (take (1 + 3 * n) (replicate 13 0))
-begins p n e h =
-    let few : 1 + 3 * n ≤ 13 = omega arith in
-    let z : replicate (1 + 3 * length p) 0 ≡ take (1 + 3 * n) (replicate 13 0) = ap (λ (k : ℕ). replicate (1 + 3 * k) 0) e ∙ sym (take-replicate (1 + 3 * n) 13 0 few) in
+pub begins : (p : Prog) → length p ≤ 4 → Comes p [] (take (1 + 3 * length p) (replicate 13 0))
+begins p h =
+    let few : 1 + 3 * length p ≤ 13 = omega arith in
+    let z : replicate (1 + 3 * length p) 0 ≡ take (1 + 3 * length p) (replicate 13 0) = sym (take-replicate (1 + 3 * length p) 13 0 few) in
     (begin p, refl, subst (λ (ws : List ℕ). Packs ws (begin p)) z (start_packs p))
 
 -- a told run of which a first part can't be made
@@ -90,16 +70,14 @@ told_none p n ws e =
     let z : told ws ≡ told (take n ws) ++ told (drop n ws) = ap told (sym (take-append-drop n ws)) ∙ map-append move_told (take n ws) (drop n ws) in
     ap (λ (ms : List Move). moves p (begin p) ms) z ∙ none_further p (begin p) (told (take n ws)) (told (drop n ws)) e
 
--- a step between parts of thirteen words
-pub made_true : (p : Prog) (w n : ℕ) (ws zs ys : List ℕ) → length ys ≡ n → Stepped (λ s. move p s (move_told w)) (mid_of 0 (n - 0) ws) true ys → Made p w (take n ws) true (take n (put_mid 0 (n - 0) zs ys))
-made_true p w n ws zs ys l h =
-    let a = subst (λ (z : List ℕ). Stepped (λ s. move p s (move_told w)) z true ys) (part_is n ws) h in
-    let b = subst (λ (z : List ℕ). Stepped (λ s. move p s (move_told w)) (take n ws) true z) (sym (written_is n zs ys l)) a in
-    made p w (take n ws) true (take n (put_mid 0 (n - 0) zs ys)) b (λ e. absurd (false_true (sym e)))
+-- a step whose words are written over the first of others
+pub made_true : (p : Prog) (w : ℕ) (ws zs ys : List ℕ) (n m : ℕ) → m ≡ n → length ys ≡ m → Stepped (λ s. move p s (move_told w)) ws true ys → Made p w ws true (take n (put_mid 0 (m - 0) zs ys))
+made_true p w ws zs ys n m e l h =
+    let is : take n (put_mid 0 (m - 0) zs ys) ≡ ys = ap (λ k. take k (put_mid 0 (m - 0) zs ys)) (sym e) ∙ written_is m zs ys l in
+    made p w ws true (take n (put_mid 0 (m - 0) zs ys)) (subst (λ (z : List ℕ). Stepped (λ s. move p s (move_told w)) ws true z) (sym is) h) (λ e. absurd (false_true (sym e)))
 
-pub made_false : (p : Prog) (w n : ℕ) (ws ys : List ℕ) → Stepped (λ s. move p s (move_told w)) (mid_of 0 (n - 0) ws) false ys → Made p w (take n ws) false (take n ws)
-made_false p w n ws ys h =
-    made p w (take n ws) false (take n ws) (subst (λ (z : List ℕ). Stepped (λ s. move p s (move_told w)) z false ys) (part_is n ws) h) (λ e. refl)
+pub made_false : (p : Prog) (w : ℕ) (ws ys : List ℕ) → Stepped (λ s. move p s (move_told w)) ws false ys → Made p w ws false ws
+made_false p w ws ys h = made p w ws false ws h (λ e. refl)
 
 -- a told run goes on by its next word
 pub went_on : (p q : Prog) (ws vs vs' : List ℕ) (i : ℕ) (r : Bool) → q ≡ p → i < length ws → Made q (get_or ws i 0) vs r vs' → Comes p (told (take i ws)) vs → Ran p (told (take (i + 1) ws)) r vs'

@@ -4,4 +4,3 @@
 pub mod making;
 pub mod reading;
 pub mod runs;
-pub mod steps;

@@ -5,7 +5,7 @@ ghost use Rattle.replay.specs.Runs.{told, Comes, Made};
 ghost use Rattle.replay.specs.Post.{state, Replayed};
 
 use crate::runs::Run;
-use crate::steps::step;
+use machine::moves::Move;
 use program::threads::Program;
 
 impl Run {
@@ -22,10 +22,9 @@ impl Run {
         ensures program { self.new.p ≡ self.old.p }
         ensures made { Made (program self.old.p) word (state self.old) result (state self.new) }
     {
-        let len = 1 + 3 * self.p.count;
-        let from = self.words;
-        let mut to = from;
-        if !step(&self.p, word, &from[0..len], &mut to[0..len]) {
+        let len = 1 + 3 * self.p.count();
+        let mut to = self.words;
+        if !self.state().make(Move::numbered(4, word), &mut to[0..len]) {
             return false;
         }
         self.words = to;

@@ -11,5 +11,5 @@ pub struct Run {
     pub p: Program,
     pub words: [u32; 13],
     ghost long: { length words ≡ 13 },
-    ghost reached: { ∥ Reached (program p) (take (1 + 3 * p.count) words) ∥₁ },
+    ghost reached: { ∥ Reached (program p) (take (1 + 3 * length (program p)) words) ∥₁ },
 }
