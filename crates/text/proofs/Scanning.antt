@@ -1,10 +1,9 @@
 -- A text cut into tokens, one token after another.
-use Rattle.std.proofs.Common.{◌≡◌, ℕ, zero, suc, ◌+◌, ◌-◌, ◌<◌, ◌≤◌, Bool, true, false, List, [], ◌∷◌, ◌++◌, length, get_or, take, drop, sym, refl, ap, ◌∙◌, subst, append_assoc, append-nil, add-zero, arith}
+use Rattle.std.proofs.Common.{◌≡◌, ℕ, zero, suc, ◌<◌, Bool, true, false, List, [], ◌∷◌, ◌++◌, length, get_or, take, drop, sym, refl, ap, ◌∙◌, subst, append_assoc, append-nil, arith}
 use mathlib.Core.Option.{Option, some, none}
-use Rattle.std.proofs.lemmas.List.{drop-drop, drop_more, drop_all, length-drop, get_or-drop}
 use Rattle.std.proofs.lemmas.Bool.Decides.{nat_tests}
 use Rattle.model.specs.Code.{opt}
-use Rattle.text.specs.Bytes.{Word, letter, blank, sign, run, Scan, ended, scan, tokens_on, tokens}
+use Rattle.text.specs.Bytes.{Word, letter, blank, sign, run, Scan, ended, scan, tokens_on}
 use Rattle.text.specs.Kinds.{FirstToken}
 use Rattle.text.proofs.Picks.{pick_true, pick_false, opt_is, opt_none}
 use Rattle.text.proofs.Runs.{run_on, run_off, run_none, run_le, Stops, run_stops}
@@ -101,22 +100,11 @@ first_empty bs n e f = record {
   cut = λ l ts. absurd (omega arith);
 }
 
--- a loop that takes one token after another from a text
-module _ (cell rest : List ℕ) (ts : List Word) (i n : ℕ) (left : rest ≡ drop i cell) (first : FirstToken rest n) (so_far : tokens cell ≡ tokens_on (at ts []) (drop i cell)) where
-  pub one_token : 0 < n → tokens cell ≡ tokens_on (at (ts ++ take n (drop i cell) ∷ []) []) (drop (i + n) cell)
-  one_token h =
-      so_far ∙ sym (ap (tokens_on (at ts [])) left) ∙ first.cut h ts
-      ∙ ap (λ (l : List ℕ). tokens_on (at (ts ++ take n l ∷ []) []) (drop n l)) left
-      ∙ ap (tokens_on (at (ts ++ take n (drop i cell) ∷ []) [])) (drop-drop n i cell)
+-- one blank
+pub one_blank : (bs : List ℕ) (ts : List Word) → 0 < length bs → blank (get_or bs 0 0) ≡ true → tokens_on (at ts []) bs ≡ tokens_on (at ts []) (drop 1 bs)
+one_blank [] ts l e = absurd (omega arith)
+one_blank (b ∷ bs) ts l e = pass_blank ts b bs e
 
-  pub no_token : n ≡ 0 → i < length cell → blank (get_or cell i 0) ≡ false → tokens cell ≡ none
-  no_token z l b =
-      let long : length rest ≡ length cell - i = ap length left ∙ length-drop i cell in
-      let here : get_or rest 0 0 ≡ get_or cell i 0 = ap (λ (l : List ℕ). get_or l 0 0) left ∙ get_or-drop i cell 0 0 ∙ ap (λ (k : ℕ). get_or cell k 0) (add-zero i) in
-      so_far ∙ sym (ap (tokens_on (at ts [])) left) ∙ first.refused z (omega arith) (ap blank here ∙ b) ts
-
-pub one_blank : (cell : List ℕ) (ts : List Word) (i : ℕ) → i < length cell → blank (get_or cell i 0) ≡ true → tokens cell ≡ tokens_on (at ts []) (drop i cell) → tokens cell ≡ tokens_on (at ts []) (drop (i + 1) cell)
-one_blank cell ts i l b so_far = so_far ∙ ap (tokens_on (at ts [])) (drop_more cell i 0 l) ∙ pass_blank ts (get_or cell i 0) (drop (i + 1) cell) b
-
-pub last_token : (cell : List ℕ) (ts : List Word) (i : ℕ) → length cell ≤ i → tokens cell ≡ tokens_on (at ts []) (drop i cell) → tokens cell ≡ some ts
-last_token cell ts i l so_far = so_far ∙ ap (tokens_on (at ts [])) (drop_all i cell l)
+pub no_bytes : (bs : List ℕ) (ts : List Word) → length bs ≡ 0 → tokens_on (at ts []) bs ≡ some ts
+no_bytes [] ts e = refl
+no_bytes (b ∷ bs) ts e = absurd (omega arith)

@@ -1,25 +1,23 @@
-use Rattle.std.proofs.Common.{map, length, vec_items, sym, ap, ◌∙◌, arith}
+use Rattle.std.proofs.Common.{◌<◌, map, length, vec_items, sym, ap, ◌∙◌, arith}
 use mathlib.Core.Option.{some}
 use Rattle.std.proofs.lemmas.List.{length-map, map_push}
-use Rattle.std.proofs.lemmas.Bool.{eqb-true, eqb-false}
 use Rattle.std.proofs.lemmas.Result.{err_from_is_err_and}
 use Rattle.program.specs.Instructions.{instruction}
 use Rattle.text.specs.Meaning.{token, places, column}
 use Rattle.text.proofs.Filling.{no_tokens, too_many, no_instruction, one_more}
 use Rattle.text.proofs.pages.does.Goals as goal
 
-pub returns-then-is_empty : goal.returns-then-is_empty
-returns-then-is_empty c =
+pub returns-in_default : goal.returns-in_default
+returns-in_default c =
     let ts = c.args.tokens.now in
     let long = length-map ts token in
-    let none = eqb-true (length ts) 0 (sym c.if-is_empty.ensures) in
-    no_tokens (places c.args.named.now) (column c.args.thread.now) (map token ts) (omega arith)
+    no_tokens (places c.args.named.now) (column c.args.thread.now) (map token ts) (omega (arith, c.in_default.ensures.item))
 
 pub returns-then-len-ge-MOST_INSTRUCTIONS : goal.returns-then-len-ge-MOST_INSTRUCTIONS
 returns-then-len-ge-MOST_INSTRUCTIONS c _ =
     let ts = c.args.tokens.now in
     let long = length-map ts token in
-    let some_token = eqb-false (length ts) 0 (sym c.if-is_empty.ensures) in
+    let some_token : 0 < length ts = omega (arith, c.in-Some.ensures.item) in
     let code = c.args.thread.now.code in
     let size = length-map (vec_items code) instruction in
     let fits = code.ok.0 in
@@ -30,14 +28,14 @@ returns-in_err-instruction c =
     let p = err_from_is_err_and c.from_residual.result c.from_residual.ensures.1 in
     let ts = c.args.tokens.now in
     let long = length-map ts token in
-    let some_token = eqb-false (length ts) 0 (sym c.if-is_empty.ensures) in
+    let some_token : 0 < length ts = omega (arith, c.in-Some.ensures.item) in
     rw (p.1, p.2) (λ refusal. no_instruction (places c.args.named.now) (column c.args.thread.now) (map token ts) (omega arith) (c.in_err-instruction.ensures refusal))
 
 pub returns : goal.returns
 returns c =
     let ts = c.args.tokens.now in
     let long = length-map ts token in
-    let some_token = eqb-false (length ts) 0 (sym c.if-is_empty.ensures) in
+    let some_token : 0 < length ts = omega (arith, c.in-Some.ensures.item) in
     let code = c.args.thread.now.code in
     let size = length-map (vec_items code) instruction in
     let fits = code.ok.0 in
