@@ -3,11 +3,11 @@ use Rattle.text.specs.Bytes.{empty}
 use Rattle.text.specs.Meaning.{words, column}
 use Rattle.text.specs.Shows.{show_cell, width}
 use Rattle.text.specs.Parts.{gap, behind}
-use Rattle.text.proofs.printing.put_part.Goals as goal
+use Rattle.text.proofs.printing.Names.put_part.Goals as goal
 
 pub returns : goal.returns
 returns c =
-    let ns = words c.args.names.now in
+    let ns = words c.args.self.places.now in
     let d = column c.args.thread.now in
     let cell = show_cell ns d c.args.j in
     let text = c.in_ok-text.text in

@@ -1,18 +1,18 @@
 use Rattle.std.proofs.Common.{◌≡◌, ℕ, suc, ◌+◌, ◌-◌, List, [], ◌∷◌, ◌++◌, map, string_bytes, sym, ap, ◌∙◌, append_assoc, append-nil}
-use Rattle.text.specs.Meaning.{words, column, listing}
+use Rattle.text.specs.Meaning.{words, column}
+use Rattle.text.specs.Grammar.{Listing}
 use Rattle.text.specs.Shows.{show_line, show_lines}
 use Rattle.text.proofs.Printed.{one_line, no_line}
-use Rattle.text.proofs.printing.put_rows.Goals as goal
+use Rattle.text.proofs.printing.Names.put_rows.Goals as goal
 
 pub loop-j-preserved : goal.loop-j-preserved
 loop-j-preserved c =
-    let l = listing c.args.source.now in
+    let l : Listing = record { columns = map column c.args.threads.now; places = words c.args.self.places.now } in
     let j = c.loop-j.j in
     let out = string_bytes c.loop-j.out in
     let row = show_line l.places (j + 1) l.columns in
     let rest = show_lines l (suc (j + 1)) (c.args.rows - (j + 1)) in
-    let put : string_bytes c.put_line.new.out ≡ out ++ row =
-    c.in_ok-put_line.ensures ∙ (λ i. out ++ show_line (words (c.as_slice.ensures.value i)) (j + 1) (map column (c.as_slice-in-loop-j.ensures.value i))) in
+    let put : string_bytes c.put_line.new.out ≡ out ++ row = c.in_ok-put_line.ensures in
     ap (λ (bs : List ℕ). bs ++ rest) (c.in_ok-push_str.ensures.bytes ∙ ap (λ (bs : List ℕ). bs ++ 10 ∷ []) put)
     ∙ append_assoc (out ++ row) (10 ∷ []) rest ∙ append_assoc out row (10 ∷ rest)
     ∙ ap (λ (bs : List ℕ). out ++ bs) (sym (one_line l j c.args.rows c.loop-j-test.true))
@@ -20,6 +20,6 @@ loop-j-preserved c =
 
 pub returns : goal.returns
 returns c =
-    let l = listing c.args.source.now in
+    let l : Listing = record { columns = map column c.args.threads.now; places = words c.args.self.places.now } in
     let out = string_bytes c.loop-j.out in
     sym (append-nil out) ∙ ap (λ (bs : List ℕ). out ++ bs) (sym (no_line l c.loop-j.j c.args.rows c.loop-j-test.false)) ∙ c.loop-j.invariant

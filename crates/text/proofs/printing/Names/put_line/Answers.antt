@@ -5,11 +5,11 @@ use Rattle.text.specs.Meaning.{words, column}
 use Rattle.text.specs.Shows.{show_line}
 use Rattle.text.specs.Parts.{part}
 use Rattle.text.proofs.Printed.{lead, one_part}
-use Rattle.text.proofs.printing.put_line.Goals as goal
+use Rattle.text.proofs.printing.Names.put_line.Goals as goal
 
 pub loop-k-preserved : goal.loop-k-preserved
 loop-k-preserved c =
-    let ns = words c.args.names.now in
+    let ns = words c.args.self.places.now in
     let ts = c.args.threads.now in
     let cs = map column ts in
     let j = c.args.j in
@@ -31,7 +31,7 @@ no_lead (suc k) = refl
 
 pub returns : goal.returns
 returns c =
-    let ns = words c.args.names.now in
+    let ns = words c.args.self.places.now in
     let ts = c.args.threads.now in
     let cs = map column ts in
     let k = c.loop-k.k in
