@@ -1,15 +1,13 @@
 -- Words looked up in a list of words.
-use Rattle.std.proofs.Common.{◌≡◌, ℕ, suc, ◌+◌, Bool, true, false, not, cond, ◌||◌, eqb, nat_lt, Some, None, List, [], ◌∷◌, map, length, string_bytes, Decides, String, sym, refl, ap, ◌∙◌, arith, rules}
+use Rattle.std.proofs.Common.{◌≡◌, ℕ, suc, ◌+◌, Bool, true, false, not, cond, ◌||◌, nat_lt, Some, None, List, [], ◌∷◌, map, length, string_bytes, Decides, String, refl, ap, ◌∙◌, arith, rules}
 use mathlib.Core.Option.{Option, some, none}
-use lib.Dec.{eqb-suc-zero}
 use Rattle.std.specs.declared.alloc.Global.{Global}
 use Rattle.std.proofs.lemmas.Slice.Eq.{compares_Decides}
-use Rattle.std.proofs.lemmas.List.{length-map}
 use Rattle.std.proofs.lemmas.Bool.{lt-ltb}
 use Rattle.std.proofs.lemmas.Bool.Decides.{same_from_decides, nat_tests}
 use Rattle.std.specs.List.{position, position_or_len, list_any}
 use Rattle.model.specs.Code.{pick, opt}
-use Rattle.text.specs.Bytes.{Word, empty, same, index_of, has}
+use Rattle.text.specs.Bytes.{Word, same, index_of, has}
 use Rattle.text.specs.declared.source.Thread.{Thread}
 use Rattle.text.specs.Grammar.{names}
 use Rattle.text.specs.Meaning.{words, column, option}
@@ -40,14 +38,6 @@ index_found w (s ∷ ss) = go (same w (string_bytes s)) (index_found w ss)
     go true ih = ap (λ (b : Bool). option (cond b (Some 0) None)) (lt-ltb 0 (suc (length ss)) (omega arith))
     go false ih =
         ap (λ (b : Bool). option (cond b (Some (1 + m)) None)) less ∙ step (nat_lt m (length ss)) ∙ ap (λ (o : Option ℕ). opt o none (λ (k : ℕ). some (suc k))) ih
-
-pub empty_is : {A : Type 0} (xs : List A) → eqb (length xs) 0 ≡ empty xs
-empty_is [] = refl
-empty_is (x ∷ xs) = eqb-suc-zero (length xs)
-
--- whether a list is empty, by the length of what it was made from
-pub empty_map : {A B : Type 0} (f : A → B) (xs : List A) (n : ℕ) → n ≡ length xs → eqb n 0 ≡ empty (map f xs)
-empty_map f xs n e = ap (λ (k : ℕ). eqb k 0) (e ∙ sym (length-map xs f)) ∙ empty_is (map f xs)
 
 -- whether one of the threads has this name
 pub has_listed : (w : Word) (ts : List Thread) → list_any (λ t. same w (string_bytes t.name)) ts ≡ has w (names (map column ts))

@@ -3,7 +3,7 @@ use Rattle.std.proofs.Common.{◌≡◌, ℕ, zero, suc, ◌+◌, ◌-◌, ◌<�
 use mathlib.Core.Option.{Option}
 use lib.Dec.{eqb-suc-zero}
 use lib.Utf8.{encode}
-use Rattle.std.proofs.lemmas.List.{at_drop_more, at_drop_all, drop_more, length-drop, length-map}
+use Rattle.std.proofs.lemmas.List.{at_drop_more, drop_more, length-drop, length-map}
 use Rattle.std.proofs.lemmas.Bool.Decides.{nat_tests}
 use Rattle.std.specs.Str.{encode_utf8_all}
 use Rattle.model.specs.Code.{opt, nth, I, fence, Thread}
@@ -69,9 +69,6 @@ module _ (ns : List Word) (t : Thread) where
   pub wider : (w i n : ℕ) → i < length t → n ≡ length (show_i ns (get_or t i fence)) → widest ns w (drop i t) ≡ widest ns (max w n) (drop (i + 1) t)
   wider w i n l e = at_drop_more (widest ns w) t i fence l ∙ ap (λ (k : ℕ). widest ns (max w k) (drop (i + 1) t)) (sym e)
 
-  pub widest_all : (w i : ℕ) → length t ≤ i → widest ns w (drop i t) ≡ w
-  widest_all w i l = at_drop_all (widest ns w) t i l
-
 -- blanks are one byte each
 pub blanks_encoded : (n : ℕ) → encode_utf8_all (replicate n 32) ≡ replicate n 32
 unfolding encode
@@ -105,6 +102,3 @@ pub one_line : (l : Listing) (j n : ℕ) → j < n → show_lines l (suc j) (n -
 one_line l j n h =
     let e : n - j ≡ suc (n - (j + 1)) = omega arith in
     ap (show_lines l (suc j)) e ∙ ap (λ (k : ℕ). show_line l.places k l.columns ++ (10 ∷ show_lines l (suc k) (n - (j + 1)))) (sym (add-one j))
-
-pub no_line : (l : Listing) (j n : ℕ) → n ≤ j → show_lines l (suc j) (n - j) ≡ []
-no_line l j n h = let e : n - j ≡ 0 = omega arith in ap (show_lines l (suc j)) e

@@ -1,12 +1,12 @@
 -- A text cut into tokens, one token after another.
-use Rattle.std.proofs.Common.{◌≡◌, ℕ, zero, suc, ◌<◌, Bool, true, false, List, [], ◌∷◌, ◌++◌, length, get_or, take, drop, sym, refl, ap, ◌∙◌, subst, append_assoc, append-nil, arith}
+use Rattle.std.proofs.Common.{◌≡◌, ℕ, zero, suc, ◌<◌, Bool, true, false, List, [], ◌∷◌, ◌++◌, take, drop, sym, refl, ap, ◌∙◌, subst, append_assoc, append-nil, arith}
 use mathlib.Core.Option.{Option, some, none}
 use Rattle.std.proofs.lemmas.Bool.Decides.{nat_tests}
 use Rattle.model.specs.Code.{opt}
-use Rattle.text.specs.Bytes.{Word, letter, blank, sign, run, Scan, ended, scan, tokens_on}
+use Rattle.text.specs.Bytes.{Word, letter, blank, run, Scan, ended, scan, tokens_on}
 use Rattle.text.specs.Kinds.{FirstToken}
-use Rattle.text.proofs.Picks.{pick_true, pick_false, opt_is, opt_none}
-use Rattle.text.proofs.Runs.{run_on, run_off, run_none, run_le, Stops, run_stops}
+use Rattle.text.proofs.Picks.{pick_true, pick_false, opt_is}
+use Rattle.text.proofs.Runs.{run_on, run_off, run_le, Stops, run_stops}
 
 abbrev pub at : List Word → Word → Scan
 at ts w = record { found = ts; begun = w }
@@ -20,17 +20,8 @@ scan_letter s b e = pick_true _ _ e
 pub scan_blank : (s : Scan) (b : ℕ) → letter b ≡ false → blank b ≡ true → scan s b ≡ some (at (ended s.found s.begun) [])
 scan_blank s b e f = pick_false _ _ e ∙ pick_true _ _ f
 
-pub scan_sign : (s : Scan) (b : ℕ) → letter b ≡ false → blank b ≡ false → sign b ≡ true → scan s b ≡ some (at (ended s.found s.begun ++ (b ∷ []) ∷ []) [])
-scan_sign s b e f g = pick_false _ _ e ∙ pick_false _ _ f ∙ pick_true _ _ g
-
-pub scan_none : (s : Scan) (b : ℕ) → letter b ≡ false → blank b ≡ false → sign b ≡ false → scan s b ≡ none
-scan_none s b e f g = pick_false _ _ e ∙ pick_false _ _ f ∙ pick_false _ _ g
-
 blank_no_letter : (b : ℕ) → blank b ≡ true → letter b ≡ false
 blank_no_letter b e = grind (arith, nat_tests)
-
-sign_no_blank : (b : ℕ) → sign b ≡ true → blank b ≡ false
-sign_no_blank b e = grind (arith, nat_tests)
 
 -- blanks between tokens say nothing
 pub pass_blank : (ts : List Word) (b : ℕ) (bs : List ℕ) → blank b ≡ true → tokens_on (at ts []) (b ∷ bs) ≡ tokens_on (at ts []) bs
@@ -76,35 +67,3 @@ first_word bs h = record {
     ended_by : (w : List ℕ) → take (run letter bs) bs ≡ w → (ts : List Word) → tokens_on (at ts w) (drop (run letter bs) bs) ≡ tokens_on (at (ts ++ w ∷ []) []) (drop (run letter bs) bs)
     ended_by [] e ts = absurd (nothing bs h e)
     ended_by (c ∷ w) e ts = end_word ts c w (drop (run letter bs) bs) (run_stops letter bs)
-
-pub first_sign : (bs : List ℕ) → 0 < length bs → run letter bs ≡ 0 → sign (get_or bs 0 0) ≡ true → FirstToken bs 1
-first_sign [] l e f = absurd (omega arith)
-first_sign (b ∷ bs) l e f = record {
-  within = omega arith;
-  refused = λ z l g ts. absurd (omega arith);
-  cut = λ _ ts. step (at ts []) (at (ts ++ (b ∷ []) ∷ []) []) b bs (scan_sign (at ts []) b (run_none letter b bs e) (sign_no_blank b f) f);
-}
-
-pub first_none : (bs : List ℕ) → 0 < length bs → run letter bs ≡ 0 → sign (get_or bs 0 0) ≡ false → FirstToken bs 0
-first_none [] l e f = absurd (omega arith)
-first_none (b ∷ bs) l e f = record {
-  within = omega arith;
-  refused = λ z l g ts. opt_none none (λ (s : Scan). tokens_on s bs) (scan_none (at ts []) b (run_none letter b bs e) g f);
-  cut = λ l ts. absurd (omega arith);
-}
-
-pub first_empty : (bs : List ℕ) (n : ℕ) → length bs ≡ 0 → n ≡ 0 → FirstToken bs n
-first_empty bs n e f = record {
-  within = omega arith;
-  refused = λ z l g ts. absurd (omega arith);
-  cut = λ l ts. absurd (omega arith);
-}
-
--- one blank
-pub one_blank : (bs : List ℕ) (ts : List Word) → 0 < length bs → blank (get_or bs 0 0) ≡ true → tokens_on (at ts []) bs ≡ tokens_on (at ts []) (drop 1 bs)
-one_blank [] ts l e = absurd (omega arith)
-one_blank (b ∷ bs) ts l e = pass_blank ts b bs e
-
-pub no_bytes : (bs : List ℕ) (ts : List Word) → length bs ≡ 0 → tokens_on (at ts []) bs ≡ some ts
-no_bytes [] ts e = refl
-no_bytes (b ∷ bs) ts e = absurd (omega arith)

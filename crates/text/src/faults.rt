@@ -49,6 +49,7 @@ pub enum Found {
     Text(String),
 }
 
+// Two impls, as `?` converts once: from what a call of std gives, with or without what could not be stored.
 impl From<AllocError> for Fault {
     ghost from_gives = { λ _ r. r ≡ Memory };
 

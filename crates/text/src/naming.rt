@@ -21,12 +21,12 @@ fn index_of(all: &[String], word: Piece<'_>) -> Option<usize>
 }
 
 // 0 to 7.
-fn numeral(word: &[u8]) -> Option<u32>
-    ensures { option result ≡ numeral word.now }
+fn numeral(heap: Global, name: Piece<'_>) -> Result<Place, Fault>
+    ensures { Answers result (λ x. x.0) (numeral (token name.entry)) }
 {
-    match word {
-        [b @ b'0'..=b'7'] => Some(u32::from(*b - b'0')),
-        _ => None,
+    match name.text {
+        [b @ b'0'..=b'7'] => Ok(Place(u32::from(*b - b'0'))),
+        _ => Err(name.fault(heap, Expected::Numeral)),
     }
 }
 
@@ -54,9 +54,9 @@ impl Places {
         {
             return Err(name.fault(heap, Expected::PlaceWord));
         }
-        let x = numeral(name.text).ok_or_else(|| name.fault(heap, Expected::Numeral))?;
+        let x = numeral(heap, name)?;
         *self = Places::Numerals;
-        Ok(Place(x))
+        Ok(x)
     }
 
     fn by_word(&mut self, heap: Global, name: Piece<'_>) -> Result<Place, Fault>

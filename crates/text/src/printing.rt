@@ -148,6 +148,7 @@ impl Names<'_> {
     fn put_rows(self, out: &mut String, threads: &[Thread], rows: usize) -> Result<(), AllocError>
         ensures { OnOk result (string_bytes out.new ≡ string_bytes out.old ++ show_lines (record { columns = map column threads.now; places = words self.entry.places.now }) 1 rows) }
     {
+        // By number, since a row is no thing of its own: it has an instruction of each thread that is so long.
         for j in 0..rows {
             self.put_line(out, threads, j + 1)?;
             out.push_str("\n")?;

@@ -4,17 +4,8 @@ use Rattle.std.specs.declared.alloc.Global.{Global}
 use Rattle.std.proofs.lemmas.List.{length-map, map_push}
 use Rattle.text.specs.Bytes.{Word, index_of}
 use Rattle.text.specs.Meaning.{token, named, words}
-use Rattle.text.proofs.PlaceNames.{full, new, word_utf8}
+use Rattle.text.proofs.PlaceNames.{new, word_utf8}
 use Rattle.text.proofs.places.Words.place.Goals as goal
-
-pub returns-then-next-eq8 : goal.returns-then-next-eq8
-returns-then-next-eq8 c _ =
-    let ws = vec_items c.args.self.now.all in
-    let w = token c.args.name in
-    let none_yet : index_of w (words ws) ≡ none = ap (λ (l : List (String Global)). index_of w (words l)) (sym c.as_slice.ensures.value) ∙ sym c.in_default.ensures.value in
-    let long = length-map ws string_bytes in
-    let fits = c.args.self.now.all.ok.0 in
-    full (named c.args.self.now) w refl none_yet (omega arith)
 
 pub returns : goal.returns
 returns c =

@@ -1,6 +1,5 @@
-use Rattle.std.proofs.Common.{◌≡◌, ℕ, zero, suc, ◌+◌, eqb, List, [], ◌++◌, map, length, drop, string_bytes, sym, refl, ap, ◌∙◌, append_assoc, append-nil, arith}
-use Rattle.std.proofs.lemmas.List.{length-map, get_or-map, drop_all}
-use Rattle.text.specs.Grammar.{Column}
+use Rattle.std.proofs.Common.{ℕ, ◌+◌, eqb, List, ◌++◌, map, length, drop, string_bytes, sym, ap, ◌∙◌, append_assoc, arith}
+use Rattle.std.proofs.lemmas.List.{length-map, get_or-map}
 use Rattle.text.specs.Meaning.{words, column}
 use Rattle.text.specs.Shows.{show_line}
 use Rattle.text.specs.Parts.{part}
@@ -23,20 +22,4 @@ loop-k-preserved c =
     ap (λ (bs : List ℕ). bs ++ left) c.in_ok-put_part.ensures
     ∙ append_assoc (string_bytes c.loop-k.out) put left
     ∙ ap (λ (bs : List ℕ). string_bytes c.loop-k.out ++ bs) (sym (one_part ns j k cs d last (omega arith) here (ap (eqb (k + 1)) (sym long))))
-    ∙ c.loop-k.invariant
-
-no_lead : (k : ℕ) → lead k [] ≡ []
-no_lead zero = refl
-no_lead (suc k) = refl
-
-pub returns : goal.returns
-returns c =
-    let ns = words c.args.self.places.now in
-    let ts = c.args.threads.now in
-    let cs = map column ts in
-    let k = c.loop-k.k in
-    let long = length-map ts column in
-    let over : drop k cs ≡ [] = drop_all k cs (omega arith) in
-    sym (append-nil (string_bytes c.loop-k.out))
-    ∙ ap (λ (bs : List ℕ). string_bytes c.loop-k.out ++ bs) (sym (ap (λ (ds : List Column). lead k (show_line ns c.args.j ds)) over ∙ no_lead k))
     ∙ c.loop-k.invariant

@@ -1,8 +1,8 @@
-use Rattle.std.proofs.Common.{◌≡◌, ℕ, suc, ◌+◌, ◌-◌, List, [], ◌∷◌, ◌++◌, map, string_bytes, sym, ap, ◌∙◌, append_assoc, append-nil}
+use Rattle.std.proofs.Common.{◌≡◌, ℕ, suc, ◌+◌, ◌-◌, List, [], ◌∷◌, ◌++◌, map, string_bytes, sym, ap, ◌∙◌, append_assoc}
 use Rattle.text.specs.Meaning.{words, column}
 use Rattle.text.specs.Grammar.{Listing}
 use Rattle.text.specs.Shows.{show_line, show_lines}
-use Rattle.text.proofs.Printed.{one_line, no_line}
+use Rattle.text.proofs.Printed.{one_line}
 use Rattle.text.proofs.printing.Names.put_rows.Goals as goal
 
 pub loop-j-preserved : goal.loop-j-preserved
@@ -17,9 +17,3 @@ loop-j-preserved c =
     ∙ append_assoc (out ++ row) (10 ∷ []) rest ∙ append_assoc out row (10 ∷ rest)
     ∙ ap (λ (bs : List ℕ). out ++ bs) (sym (one_line l j c.args.rows c.loop-j-test.true))
     ∙ c.loop-j.invariant
-
-pub returns : goal.returns
-returns c =
-    let l : Listing = record { columns = map column c.args.threads.now; places = words c.args.self.places.now } in
-    let out = string_bytes c.loop-j.out in
-    sym (append-nil out) ∙ ap (λ (bs : List ℕ). out ++ bs) (sym (no_line l c.loop-j.j c.args.rows c.loop-j-test.false)) ∙ c.loop-j.invariant

@@ -5,7 +5,7 @@ use Rattle.program.specs.declared.instructions.Instruction.{Instruction}
 use Rattle.program.specs.Instructions.{instruction}
 use Rattle.text.specs.Meaning.{words}
 use Rattle.text.specs.Shows.{show_i, widest}
-use Rattle.text.proofs.Printed.{wider, widest_all}
+use Rattle.text.proofs.Printed.{wider}
 use Rattle.text.proofs.printing.Names.width.Goals as goal
 
 pub loop-i-preserved : goal.loop-i-preserved
@@ -25,10 +25,3 @@ loop-i-preserved c =
     let width : c.len.result ≡ length (show_i ns (get_or (map instruction code) i fence)) = c.len.ensures ∙ text.bytes.ok.0 ∙ shown in
     c.loop-i.invariant ∙ wider ns (map instruction code) c.loop-i.most i c.len.result l width
     ∙ ap (λ (w : ℕ). widest ns w (drop (i + 1) (map instruction code))) (sym c.max-most.ensures)
-
-pub returns : goal.returns
-returns c =
-    let code = vec_items c.args.thread.now.code in
-    let size = ap length c.deref-i-items.ensures.value in
-    let long = length-map code instruction in
-    sym (c.loop-i.invariant ∙ widest_all (words c.args.self.places.now) (map instruction code) c.loop-i.most c.loop-i.i-index (omega arith))
