@@ -3,6 +3,7 @@ ghost use Rattle.std.specs.Prelude.{◌≡◌, ◌≤◌, length};
 ghost use Rattle.text.specs.Bytes.{run, all};
 ghost use Rattle.text.specs.Kinds.{test};
 
+// An enum and no closures: a contract can name the test that it means.
 #[derive(Clone, Copy)]
 pub enum Kind {
     // letters, digits, `_` and `-`, which words are made of
