@@ -1,5 +1,10 @@
 -- Lists of few elements, by their places.
 use Rattle.std.proofs.Common.{◌≡◌, List, [], ◌∷◌, length, get_or, refl, arith}
+use Rattle.text.specs.declared.pieces.Piece.{Piece}
+
+-- what is read of a piece that is not there
+abbrev pub nothing : Piece
+nothing = record { text = record { ref_ptr = (0, 0); now = [] }; spot = record { line = 0; column = 0 } }
 
 module _ {A : Type 0} where
   pub of_1 : (xs : List A) (d : A) → length xs ≡ 1 → xs ≡ get_or xs 0 d ∷ []

@@ -1,31 +1,15 @@
 -- A page filled cell by cell.
-use Rattle.std.proofs.Common.{◌≡◌, ℕ, zero, suc, ◌<◌, ◌≤◌, Bool, true, false, ltb, List, [], ◌∷◌, length, get_or, set, refl, ap, ◌∙◌, arith}
+use Rattle.std.proofs.Common.{◌≡◌, ℕ, zero, suc, ◌<◌, ◌≤◌, List, [], ◌∷◌, length, get_or, set, refl, ap, ◌∙◌, arith}
 use mathlib.Core.Option.{Option, some, none}
-use Rattle.std.proofs.lemmas.Bool.{lt-ltb, le-ltb}
-use Rattle.model.specs.Code.{pick, opt, nth, put, I}
+use Rattle.std.proofs.lemmas.Bool.{lt-ltb}
+use Rattle.model.specs.Code.{opt, nth, put, I}
 use Rattle.text.specs.Bytes.{Word, tokens}
 use Rattle.text.specs.Grammar.{Places, Column, Page, instruction, longer, does, cell}
-use Rattle.text.proofs.Picks.{pick_true, pick_false, opt_is, opt_none}
+use Rattle.text.proofs.Picks.{pick_true, opt_is, opt_none}
 
 module _ (ps : Places) (c : Column) where
-  pub no_tokens : (ts : List Word) → length ts ≡ 0 → does ps c ts ≡ some (ps, c)
-  no_tokens [] e = refl
-  no_tokens (t ∷ ts) e = absurd (omega arith)
-
-  pub too_many : (ts : List Word) → 0 < length ts → 8 ≤ length c.code → does ps c ts ≡ none
-  too_many [] l m = absurd (omega arith)
-  too_many (t ∷ ts) l m = pick_false _ _ (le-ltb (length c.code) 8 m)
-
   abbrev with : Places × I → Option (Places × Column)
   with q = some (q.0, longer c q.1)
-
-  pub no_instruction : (ts : List Word) → 0 < length ts → instruction ps ts ≡ none → does ps c ts ≡ none
-  no_instruction [] l e = absurd (omega arith)
-  no_instruction (t ∷ ts) l e = go (ltb (length c.code) 8)
-    where
-      go : (b : Bool) → pick b (opt (instruction ps (t ∷ ts)) none with) none ≡ none
-      go true = opt_none none with e
-      go false = refl
 
   pub one_more : (ts : List Word) (qs : Places) (i : I) → 0 < length ts → length c.code < 8 → instruction ps ts ≡ some (qs, i) → does ps c ts ≡ some (qs, longer c i)
   one_more [] qs i l m e = absurd (omega arith)
@@ -62,9 +46,6 @@ module _ (k : ℕ) (s : Page) (bs : List ℕ) (c : Column) (here : nth s.columns
 
   pub cell_not : (ts : List Word) → tokens bs ≡ some ts → does s.places c ts ≡ none → cell k s bs ≡ none
   cell_not ts e f = opt_is none at_column here ∙ opt_is none after_tokens e ∙ opt_none none after_does f
-
-  pub cell_no_tokens : tokens bs ≡ none → cell k s bs ≡ none
-  cell_no_tokens e = opt_is none at_column here ∙ opt_none none after_tokens e
 
 pub cell_past : (k : ℕ) (s : Page) (bs : List ℕ) → length s.columns ≤ k → cell k s bs ≡ none
 cell_past k s bs l =

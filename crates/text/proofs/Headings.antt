@@ -1,28 +1,14 @@
 -- The threads' names, and a line without its end and its comment.
-use Rattle.std.proofs.Common.{◌≡◌, ℕ, zero, suc, ◌<◌, ◌≤◌, Bool, true, false, not, List, [], ◌∷◌, length, get_or, take, sym, refl, ap, ◌∙◌, arith}
+use Rattle.std.proofs.Common.{◌≡◌, ℕ, zero, suc, ◌<◌, ◌≤◌, Bool, true, false, not, List, [], ◌∷◌, length, get_or, take, sym, ap, ◌∙◌, arith}
 use mathlib.Core.Option.{Option, some, none}
-use Rattle.std.proofs.lemmas.Bool.{lt-ltb, le-ltb, and_from, and_left, and_right, not_from_true, not_from_false, eq-eqb, ne_eqb}
+use Rattle.std.proofs.lemmas.Bool.{lt-ltb, and_from, not_from_false, eq-eqb, ne_eqb}
 use Rattle.model.specs.Code.{opt}
 use Rattle.text.specs.Bytes.{Word, word, has, no_cr, tokens, run, all}
 use Rattle.text.specs.Grammar.{Page, names, name, begin, begins}
-use Rattle.text.proofs.Picks.{pick_true, pick_false, opt_is, opt_none}
+use Rattle.text.proofs.Picks.{pick_true, pick_false, opt_is}
 use Rattle.text.proofs.Runs.{run_all}
 
-pub not_one : (ns ts : List Word) → (length ts ≡ 1 → ⊥) → name ns ts ≡ none
-not_one ns [] h = refl
-not_one ns (w ∷ []) h = absurd (h refl)
-not_one ns (w ∷ v ∷ ws) h = refl
-
 module _ (ns : List Word) (w : Word) where
-  pub no_word : word w ≡ false → name ns (w ∷ []) ≡ none
-  no_word e = pick_false _ _ (and_left (word w) _ e)
-
-  pub known : has w ns ≡ true → name ns (w ∷ []) ≡ none
-  known e = pick_false _ _ (and_right (word w) _ (and_left (not (has w ns)) _ (not_from_true _ e)))
-
-  pub fifth : 4 ≤ length ns → name ns (w ∷ []) ≡ none
-  fifth l = pick_false _ _ (and_right (word w) _ (and_right (not (has w ns)) _ (le-ltb (length ns) 4 l)))
-
   pub a_name : word w ≡ true → has w ns ≡ false → length ns < 4 → name ns (w ∷ []) ≡ some w
   a_name e f l = pick_true _ _ (and_from (word w) _ e (and_from (not (has w ns)) _ (not_from_false _ f) (lt-ltb (length ns) 4 l)))
 
@@ -30,15 +16,8 @@ module _ (s : Page) (c : List ℕ) (ts : List Word) (are : tokens c ≡ some ts)
   abbrev named : List Word → Option Page
   named ts = opt (name (names s.columns) ts) none (λ (w : Word). some (begin s w))
 
-  pub begins_not : name (names s.columns) ts ≡ none → begins s c ≡ none
-  begins_not e = opt_is none named are ∙ opt_none none (λ (w : Word). some (begin s w)) e
-
   pub begins_is : (w : Word) → name (names s.columns) ts ≡ some w → begins s c ≡ some (begin s w)
   begins_is w e = opt_is none named are ∙ opt_is none (λ (w : Word). some (begin s w)) e
-
-pub no_cr_none : (l : List ℕ) → length l ≡ 0 → l ≡ no_cr l
-no_cr_none [] e = refl
-no_cr_none (b ∷ l) e = absurd (omega arith)
 
 pub no_cr_off : (l : List ℕ) (n : ℕ) → suc n ≡ length l → get_or l n 0 ≡ 13 → take n l ≡ no_cr l
 no_cr_off [] n e f = absurd (omega arith)

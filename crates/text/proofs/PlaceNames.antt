@@ -1,10 +1,10 @@
 -- The cases of a place's name.
-use Rattle.std.proofs.Common.{◌≡◌, ℕ, ◌<◌, ◌≤◌, true, false, not, [], ◌∷◌, ◌++◌, length, IsUtf8, ◌∙◌, arith}
+use Rattle.std.proofs.Common.{◌≡◌, ℕ, ◌<◌, true, false, not, [], ◌∷◌, ◌++◌, length, IsUtf8, ◌∙◌, arith}
 use mathlib.Core.Option.{some, none}
 use Rattle.std.specs.List.{AllByRecursion}
 use Rattle.std.proofs.ByRecursion.{IsAscii-from_all}
 use Rattle.std.proofs.lemmas.Str.{IsUtf8-from_ascii}
-use Rattle.std.proofs.lemmas.Bool.{lt-ltb, le-ltb, and_parts}
+use Rattle.std.proofs.lemmas.Bool.{lt-ltb, and_parts}
 use Rattle.std.proofs.lemmas.Bool.Decides.{nat_tests}
 use Rattle.text.specs.Bytes.{Word, letter, all, empty, word, index_of}
 use Rattle.text.specs.Grammar.{Places, numeral, by_numeral, by_word}
@@ -24,9 +24,6 @@ word_utf8 w e = IsUtf8-from_ascii w (IsAscii-from_all w (letters_ascii w (and_pa
 module _ (ps : Places) (w : Word) where
   pub numeral_is : (x : ℕ) → empty ps.words ≡ true → numeral w ≡ some x → by_numeral ps w ≡ some (record { numerals = true; words = ps.words }, x)
   numeral_is x e f = pick_true _ _ e ∙ opt_is none (λ (x : ℕ). some (record { numerals = true; words = ps.words }, x)) f
-
-  pub full : ps.numerals ≡ false → index_of w ps.words ≡ none → 8 ≤ length ps.words → by_word ps w ≡ none
-  full e f l = pick_false _ _ e ∙ opt_none _ _ f ∙ pick_false _ _ (le-ltb (length ps.words) 8 l)
 
   pub new : ps.numerals ≡ false → index_of w ps.words ≡ none → length ps.words < 8 → by_word ps w ≡ some (record { numerals = false; words = ps.words ++ w ∷ [] }, length ps.words)
   new e f l = pick_false _ _ e ∙ opt_none _ _ f ∙ pick_true _ _ (lt-ltb (length ps.words) 8 l)

@@ -1,12 +1,17 @@
 -- A line put down column by column.
-use Rattle.std.proofs.Common.{◌≡◌, ℕ, zero, suc, ◌+◌, ◌-◌, ◌<◌, ◌≤◌, max, Bool, true, false, ◌&&◌, eqb, List, [], ◌∷◌, ◌++◌, length, get_or, drop, replicate, codes, decimal, sym, refl, ap, ◌∙◌, append_assoc, append-nil, add-one, arith}
+use Rattle.std.proofs.Common.{◌≡◌, ℕ, zero, suc, ◌+◌, ◌-◌, ◌<◌, ◌≤◌, max, Bool, true, false, ◌&&◌, eqb, List, [], ◌∷◌, ◌++◌, map, fold, vec_items, length, get_or, drop, replicate, codes, decimal, sym, refl, ap, ◌∙◌, append_assoc, append-nil, add-one, arith}
 use mathlib.Core.Option.{Option}
 use lib.Dec.{eqb-suc-zero}
-use Rattle.std.proofs.lemmas.List.{at_drop_more, at_drop_all, drop_more, length-drop}
+use lib.Utf8.{encode}
+use Rattle.std.proofs.lemmas.List.{at_drop_more, drop_more, length-drop, length-map}
 use Rattle.std.proofs.lemmas.Bool.Decides.{nat_tests}
-use Rattle.model.specs.Code.{opt, nth, I, fence, Thread, Prog}
+use Rattle.std.specs.Str.{encode_utf8_all}
+use Rattle.model.specs.Code.{opt, nth, I, fence, Thread}
 use Rattle.text.specs.Bytes.{Word, empty}
+use Rattle.text.specs.declared.source.Thread as Source
 use Rattle.text.specs.Grammar.{Column, Listing}
+use Rattle.text.specs.Meaning.{column}
+use Rattle.program.specs.Instructions.{instruction}
 use Rattle.text.specs.Shows.{show_place, show_i, show_cell, widest, width, spaced, filled, show_line, show_lines, height}
 use Rattle.text.specs.Parts.{gap, part}
 use Rattle.text.proofs.Filling.{nth_at, nth_past}
@@ -64,16 +69,19 @@ module _ (ns : List Word) (t : Thread) where
   pub wider : (w i n : ℕ) → i < length t → n ≡ length (show_i ns (get_or t i fence)) → widest ns w (drop i t) ≡ widest ns (max w n) (drop (i + 1) t)
   wider w i n l e = at_drop_more (widest ns w) t i fence l ∙ ap (λ (k : ℕ). widest ns (max w k) (drop (i + 1) t)) (sym e)
 
-  pub widest_all : (w i : ℕ) → length t ≤ i → widest ns w (drop i t) ≡ w
-  widest_all w i l = at_drop_all (widest ns w) t i l
+-- blanks are one byte each
+pub blanks_encoded : (n : ℕ) → encode_utf8_all (replicate n 32) ≡ replicate n 32
+unfolding encode
+blanks_encoded zero = refl
+blanks_encoded (suc n) = ap (λ (bs : List ℕ). 32 ∷ bs) (blanks_encoded n)
 
--- a loop that looks for the longest thread
-module _ (p : Prog) where
-  pub taller : (h i n : ℕ) → i < length p → n ≡ length (get_or p i []) → height p ≡ max h (height (drop i p)) → height p ≡ max (max n h) (height (drop (i + 1) p))
-  taller h i n l e f = let s : height (drop i p) ≡ max (length (get_or p i [])) (height (drop (i + 1) p)) = at_drop_more height p i [] l in omega arith
-
-  pub tallest : (h i : ℕ) → length p ≤ i → height p ≡ max h (height (drop i p)) → h ≡ height p
-  tallest h i l f = let s : height (drop i p) ≡ 0 = at_drop_all height p i l in omega arith
+-- the longest of threads, from h on
+pub tallest : (h : ℕ) (ts : List Source.Thread) → fold (λ most (t : Source.Thread). max (length (vec_items t.code)) most) h ts ≡ max h (height (map (λ (t : Column). t.code) (map column ts)))
+tallest h [] = omega arith
+tallest h (t ∷ ts) =
+    let size = length-map (vec_items t.code) instruction in
+    let rest = tallest (max (length (vec_items t.code)) h) ts in
+    omega arith
 
 -- one column more of a line
 pub one_part : (ns : List Word) (j k : ℕ) (cs : List Column) (c : Column) (last : Bool) → k < length cs → get_or cs k c ≡ c → last ≡ eqb (k + 1) (length cs) → lead k (show_line ns j (drop k cs)) ≡ part ns j k last c ++ lead (k + 1) (show_line ns j (drop (k + 1) cs))
@@ -94,6 +102,3 @@ pub one_line : (l : Listing) (j n : ℕ) → j < n → show_lines l (suc j) (n -
 one_line l j n h =
     let e : n - j ≡ suc (n - (j + 1)) = omega arith in
     ap (show_lines l (suc j)) e ∙ ap (λ (k : ℕ). show_line l.places k l.columns ++ (10 ∷ show_lines l (suc k) (n - (j + 1)))) (sym (add-one j))
-
-pub no_line : (l : Listing) (j n : ℕ) → n ≤ j → show_lines l (suc j) (n - j) ≡ []
-no_line l j n h = let e : n - j ≡ 0 = omega arith in ap (show_lines l (suc j)) e

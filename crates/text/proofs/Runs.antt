@@ -1,6 +1,7 @@
 -- Runs of bytes that pass a test, and a text cut at a byte.
-use Rattle.std.proofs.Common.{◌≡◌, ℕ, suc, ◌+◌, ◌<◌, ◌≤◌, Bool, true, false, ◌&&◌, eqb, List, [], ◌∷◌, length, get_or, take, drop, sym, refl, ap, ◌∙◌, subst, add-one, arith}
-use Rattle.std.proofs.lemmas.List.{at_drop_more, at_drop_all}
+use Rattle.std.proofs.Common.{◌≡◌, ℕ, suc, ◌+◌, ◌<◌, ◌≤◌, Bool, true, false, ◌&&◌, cond, eqb, List, [], ◌∷◌, length, get_or, take, drop, sym, refl, ap, ◌∙◌, subst, add-one, arith}
+use Rattle.std.specs.List.{prefix_len, take_while, list_all}
+use Rattle.std.proofs.lemmas.List.Folds.{length-prefix_len}
 use Rattle.std.proofs.lemmas.Bool.{not_from_true, not_from_false}
 use Rattle.std.proofs.lemmas.Bool.Decides.{nat_tests}
 use Rattle.model.specs.Code.{pick}
@@ -25,6 +26,10 @@ module _ (f : ℕ → Bool) where
   run_le [] = omega arith
   run_le (b ∷ bs) = let h = run_le bs in elim (f b) as (λ t. pick t (suc (run f bs)) 0 ≤ suc (length bs)) [ true ↦ omega arith | false ↦ omega arith ]
 
+  pub run_some : (bs : List ℕ) → 0 < length bs → f (get_or bs 0 0) ≡ true → 0 < run f bs
+  run_some [] l e = absurd (omega arith)
+  run_some (b ∷ bs) l e = let r = run_on b bs e in omega arith
+
   -- nothing is left, or what is left does not pass
   abbrev pub Stops : List ℕ → Type 0
   Stops [] = Unit {0}
@@ -44,15 +49,18 @@ module _ (f : ℕ → Bool) where
       let h = run_all bs in
       elim (f b) as (λ t. eqb (pick t (suc (run f bs)) 0) (suc (length bs)) ≡ (t && all f bs)) [ true ↦ grind (arith, nat_tests) ∙ h | false ↦ grind (arith, nat_tests) ]
 
-  -- one step of a loop that counts the run
-  pub run_more : (bs : List ℕ) (i : ℕ) → i < length bs → f (get_or bs i 0) ≡ true → run f bs ≡ i + run f (drop i bs) → run f bs ≡ i + 1 + run f (drop (i + 1) bs)
-  run_more bs i l e h = let s = at_drop_more (run f) bs i 0 l ∙ run_on (get_or bs i 0) (drop (i + 1) bs) e in omega arith
+  run_prefix : (bs : List ℕ) → prefix_len f bs ≡ run f bs
+  run_prefix [] = refl
+  run_prefix (b ∷ bs) =
+      let h = run_prefix bs in
+      elim (f b) as (λ t. cond t (1 + prefix_len f bs) 0 ≡ pick t (suc (run f bs)) 0) [ true ↦ omega arith | false ↦ refl ]
 
-  pub run_ends : (bs : List ℕ) (i : ℕ) → i < length bs → f (get_or bs i 0) ≡ false → run f bs ≡ i + run f (drop i bs) → run f bs ≡ i
-  run_ends bs i l e h = let s = at_drop_more (run f) bs i 0 l ∙ run_off (get_or bs i 0) (drop (i + 1) bs) e in omega arith
+  pub run_taken : (bs : List ℕ) → length (take_while f bs) ≡ run f bs
+  run_taken bs = length-prefix_len f bs ∙ run_prefix bs
 
-  pub run_over : (bs : List ℕ) (i : ℕ) → length bs ≤ i → run f bs ≡ i + run f (drop i bs) → run f bs ≡ i
-  run_over bs i l h = let s : run f (drop i bs) ≡ 0 = at_drop_all (run f) bs i l in omega arith
+  pub all_listed : (bs : List ℕ) → list_all f bs ≡ all f bs
+  all_listed [] = refl
+  all_listed (b ∷ bs) = ap (λ (t : Bool). f b && t) (all_listed bs)
 
 -- a cut where the run of other bytes ends
 pub pieces_cut : (s : ℕ) (bs : List ℕ) → run (but s) bs < length bs → pieces s bs ≡ before s bs ∷ pieces s (drop (run (but s) bs + 1) bs)

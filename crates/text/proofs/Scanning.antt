@@ -1,13 +1,12 @@
 -- A text cut into tokens, one token after another.
-use Rattle.std.proofs.Common.{◌≡◌, ℕ, zero, suc, ◌+◌, ◌-◌, ◌<◌, ◌≤◌, Bool, true, false, List, [], ◌∷◌, ◌++◌, length, get_or, take, drop, sym, refl, ap, ◌∙◌, subst, append_assoc, append-nil, add-zero, arith}
+use Rattle.std.proofs.Common.{◌≡◌, ℕ, zero, suc, ◌<◌, Bool, true, false, List, [], ◌∷◌, ◌++◌, take, drop, sym, refl, ap, ◌∙◌, subst, append_assoc, append-nil, arith}
 use mathlib.Core.Option.{Option, some, none}
-use Rattle.std.proofs.lemmas.List.{drop-drop, drop_more, drop_all, length-drop, get_or-drop}
 use Rattle.std.proofs.lemmas.Bool.Decides.{nat_tests}
 use Rattle.model.specs.Code.{opt}
-use Rattle.text.specs.Bytes.{Word, letter, blank, sign, run, Scan, ended, scan, tokens_on, tokens}
+use Rattle.text.specs.Bytes.{Word, letter, blank, run, Scan, ended, scan, tokens_on}
 use Rattle.text.specs.Kinds.{FirstToken}
-use Rattle.text.proofs.Picks.{pick_true, pick_false, opt_is, opt_none}
-use Rattle.text.proofs.Runs.{run_on, run_off, run_none, run_le, Stops, run_stops}
+use Rattle.text.proofs.Picks.{pick_true, pick_false, opt_is}
+use Rattle.text.proofs.Runs.{run_on, run_off, run_le, Stops, run_stops}
 
 abbrev pub at : List Word → Word → Scan
 at ts w = record { found = ts; begun = w }
@@ -21,17 +20,8 @@ scan_letter s b e = pick_true _ _ e
 pub scan_blank : (s : Scan) (b : ℕ) → letter b ≡ false → blank b ≡ true → scan s b ≡ some (at (ended s.found s.begun) [])
 scan_blank s b e f = pick_false _ _ e ∙ pick_true _ _ f
 
-pub scan_sign : (s : Scan) (b : ℕ) → letter b ≡ false → blank b ≡ false → sign b ≡ true → scan s b ≡ some (at (ended s.found s.begun ++ (b ∷ []) ∷ []) [])
-scan_sign s b e f g = pick_false _ _ e ∙ pick_false _ _ f ∙ pick_true _ _ g
-
-pub scan_none : (s : Scan) (b : ℕ) → letter b ≡ false → blank b ≡ false → sign b ≡ false → scan s b ≡ none
-scan_none s b e f g = pick_false _ _ e ∙ pick_false _ _ f ∙ pick_false _ _ g
-
 blank_no_letter : (b : ℕ) → blank b ≡ true → letter b ≡ false
 blank_no_letter b e = grind (arith, nat_tests)
-
-sign_no_blank : (b : ℕ) → sign b ≡ true → blank b ≡ false
-sign_no_blank b e = grind (arith, nat_tests)
 
 -- blanks between tokens say nothing
 pub pass_blank : (ts : List Word) (b : ℕ) (bs : List ℕ) → blank b ≡ true → tokens_on (at ts []) (b ∷ bs) ≡ tokens_on (at ts []) bs
@@ -77,46 +67,3 @@ first_word bs h = record {
     ended_by : (w : List ℕ) → take (run letter bs) bs ≡ w → (ts : List Word) → tokens_on (at ts w) (drop (run letter bs) bs) ≡ tokens_on (at (ts ++ w ∷ []) []) (drop (run letter bs) bs)
     ended_by [] e ts = absurd (nothing bs h e)
     ended_by (c ∷ w) e ts = end_word ts c w (drop (run letter bs) bs) (run_stops letter bs)
-
-pub first_sign : (bs : List ℕ) → 0 < length bs → run letter bs ≡ 0 → sign (get_or bs 0 0) ≡ true → FirstToken bs 1
-first_sign [] l e f = absurd (omega arith)
-first_sign (b ∷ bs) l e f = record {
-  within = omega arith;
-  refused = λ z l g ts. absurd (omega arith);
-  cut = λ _ ts. step (at ts []) (at (ts ++ (b ∷ []) ∷ []) []) b bs (scan_sign (at ts []) b (run_none letter b bs e) (sign_no_blank b f) f);
-}
-
-pub first_none : (bs : List ℕ) → 0 < length bs → run letter bs ≡ 0 → sign (get_or bs 0 0) ≡ false → FirstToken bs 0
-first_none [] l e f = absurd (omega arith)
-first_none (b ∷ bs) l e f = record {
-  within = omega arith;
-  refused = λ z l g ts. opt_none none (λ (s : Scan). tokens_on s bs) (scan_none (at ts []) b (run_none letter b bs e) g f);
-  cut = λ l ts. absurd (omega arith);
-}
-
-pub first_empty : (bs : List ℕ) (n : ℕ) → length bs ≡ 0 → n ≡ 0 → FirstToken bs n
-first_empty bs n e f = record {
-  within = omega arith;
-  refused = λ z l g ts. absurd (omega arith);
-  cut = λ l ts. absurd (omega arith);
-}
-
--- a loop that takes one token after another from a text
-module _ (cell rest : List ℕ) (ts : List Word) (i n : ℕ) (left : rest ≡ drop i cell) (first : FirstToken rest n) (so_far : tokens cell ≡ tokens_on (at ts []) (drop i cell)) where
-  pub one_token : 0 < n → tokens cell ≡ tokens_on (at (ts ++ take n (drop i cell) ∷ []) []) (drop (i + n) cell)
-  one_token h =
-      so_far ∙ sym (ap (tokens_on (at ts [])) left) ∙ first.cut h ts
-      ∙ ap (λ (l : List ℕ). tokens_on (at (ts ++ take n l ∷ []) []) (drop n l)) left
-      ∙ ap (tokens_on (at (ts ++ take n (drop i cell) ∷ []) [])) (drop-drop n i cell)
-
-  pub no_token : n ≡ 0 → i < length cell → blank (get_or cell i 0) ≡ false → tokens cell ≡ none
-  no_token z l b =
-      let long : length rest ≡ length cell - i = ap length left ∙ length-drop i cell in
-      let here : get_or rest 0 0 ≡ get_or cell i 0 = ap (λ (l : List ℕ). get_or l 0 0) left ∙ get_or-drop i cell 0 0 ∙ ap (λ (k : ℕ). get_or cell k 0) (add-zero i) in
-      so_far ∙ sym (ap (tokens_on (at ts [])) left) ∙ first.refused z (omega arith) (ap blank here ∙ b) ts
-
-pub one_blank : (cell : List ℕ) (ts : List Word) (i : ℕ) → i < length cell → blank (get_or cell i 0) ≡ true → tokens cell ≡ tokens_on (at ts []) (drop i cell) → tokens cell ≡ tokens_on (at ts []) (drop (i + 1) cell)
-one_blank cell ts i l b so_far = so_far ∙ ap (tokens_on (at ts [])) (drop_more cell i 0 l) ∙ pass_blank ts (get_or cell i 0) (drop (i + 1) cell) b
-
-pub last_token : (cell : List ℕ) (ts : List Word) (i : ℕ) → length cell ≤ i → tokens cell ≡ tokens_on (at ts []) (drop i cell) → tokens cell ≡ some ts
-last_token cell ts i l so_far = so_far ∙ ap (tokens_on (at ts [])) (drop_all i cell l)

@@ -1,11 +1,12 @@
 -- What the values of the code mean, by the grammar's definitions.
-use Rattle.std.specs.Prelude.{List, map, Some, None, vec_items, string_bytes, String}
+use Rattle.std.specs.Prelude.{true, false, List, [], map, Some, None, vec_items, string_bytes, String}
 use Rattle.std.proofs.Math.Option.{Option, some, none}
 use Rattle.std.specs.declared.alloc.Global.{Global}
 use Rattle.std.specs.declared.option.Option as std
 use Rattle.program.specs.Instructions.{instruction}
 use Rattle.text.specs.declared as code
-use Rattle.text.specs.declared.tokens.Token.{Token}
+use Rattle.text.specs.declared.pieces.Piece.{Piece}
+use Rattle.text.specs.declared.places.Places.TheVariants.{Numerals, Words}
 use Rattle.text.specs.Bytes.{Word}
 use Rattle.text.specs.Grammar.{Places, Column, Page, Listing}
 
@@ -16,11 +17,16 @@ option (Some x) = some x
 abbrev pub words : List (String Global) → List Word
 words ss = map string_bytes ss
 
-abbrev pub token : Token → Word
-token t = t.text.now
+-- the bytes of a piece of text, as of a token
+abbrev pub token : Piece → Word
+token p = p.text.now
+
+abbrev pub named : code.places.Words.Words → Places
+named w = record { numerals = false; words = words (vec_items w.all) }
 
 abbrev pub places : code.places.Places.Places → Places
-places p = record { numerals = p.numerals; words = words (vec_items p.words) }
+places Numerals = record { numerals = true; words = [] }
+places (Words w) = named w
 
 abbrev pub column : code.source.Thread.Thread → Column
 column t = record { name = string_bytes t.name; code = map instruction (vec_items t.code) }

@@ -1,8 +1,9 @@
 // Bytes by their kinds, and how far a run of one kind goes.
 ghost use Rattle.std.specs.Prelude.{◌≡◌, ◌≤◌, length};
-ghost use Rattle.text.specs.Bytes.{run, all, word, same};
+ghost use Rattle.text.specs.Bytes.{run, all};
 ghost use Rattle.text.specs.Kinds.{test};
 
+// An enum and no closures: a contract can name the test that it means.
 #[derive(Clone, Copy)]
 pub enum Kind {
     // letters, digits, `_` and `-`, which words are made of
@@ -37,32 +38,13 @@ impl Kind {
         ensures value { result ≡ run (test self) bytes.now }
         ensures within { result ≤ length bytes.now }
     {
-        for (i, b) in bytes.iter().enumerate() {
-            if !self.has(*b) {
-                return i;
-            }
-        }
-        bytes.len()
+        bytes.iter().take_while(|b| self.has(**b)).count()
     }
 
     // Whether each byte is of this kind.
     pub fn all(self, bytes: &[u8]) -> bool
         ensures { result ≡ all (test self) bytes.now }
     {
-        self.run(bytes) == bytes.len()
+        bytes.iter().all(|b| self.has(*b))
     }
-}
-
-// Whether these bytes are a word.
-pub fn is_word(bytes: &[u8]) -> bool
-    ensures { result ≡ word bytes.now }
-{
-    !bytes.is_empty() && Kind::Letter.all(bytes)
-}
-
-// Whether these are the same bytes.
-pub fn same(a: &[u8], b: &[u8]) -> bool
-    ensures { result ≡ same a.now b.now }
-{
-    a == b
 }

@@ -49,6 +49,7 @@ pub enum Found {
     Text(String),
 }
 
+// Two impls, as `?` converts once: from what a call of std gives, with or without what could not be stored.
 impl From<AllocError> for Fault {
     ghost from_gives = { λ _ r. r ≡ Memory };
 
@@ -73,6 +74,9 @@ pub struct Spot {
 }
 
 impl Spot {
+    // Where a text begins.
+    pub(crate) const START: Spot = Spot { line: 1, column: 1 };
+
     // So many bytes on. Past the largest number it stays there: it only tells where.
     pub fn on(self, bytes: usize) -> Spot {
         Spot {
@@ -81,23 +85,48 @@ impl Spot {
         }
     }
 
-    // What was found here instead of what was expected: these bytes, or none where the cell ends.
-    pub fn fault(self, heap: Global, expected: Expected, bytes: &[u8]) -> Fault {
-        let found = match bytes {
-            [] => Found::CellEnd,
-            [b @ 0..=32] => Found::Byte(*b),
-            [b @ 127..=255] => Found::Byte(*b),
-            _ => match String::from_utf8_lossy(heap, bytes) {
-                Ok(text) => Found::Text(text),
-                Err(_) => return Fault::Memory,
-            },
-        };
+    // Behind this byte, which stands here.
+    pub(crate) fn after(self, b: u8) -> Spot {
+        if b == b'\n' {
+            Spot {
+                line: self.line.saturating_add(1),
+                column: 1,
+            }
+        } else {
+            self.on(1)
+        }
+    }
+
+    // Past these bytes, which begin here.
+    pub(crate) fn past(self, bytes: &[u8]) -> Spot {
+        bytes.iter().fold(self, |spot, b| spot.after(*b))
+    }
+
+    pub(crate) fn refused(self, expected: Expected, found: Found) -> Fault {
         Fault::Refused {
             line: self.line,
             column: self.column,
             expected,
             found,
         }
+    }
+
+    // What was found here instead of what was expected: these bytes, or none where the cell ends.
+    pub fn fault(self, heap: Global, expected: Expected, bytes: &[u8]) -> Fault {
+        match Found::of(heap, bytes) {
+            Ok(found) => self.refused(expected, found),
+            Err(e) => Fault::from(e),
+        }
+    }
+}
+
+impl Found {
+    fn of(heap: Global, bytes: &[u8]) -> Result<Found, AllocError> {
+        Ok(match bytes {
+            [] => Found::CellEnd,
+            [b @ (0..=32 | 127..=255)] => Found::Byte(*b),
+            _ => Found::Text(String::from_utf8_lossy(heap, bytes)?),
+        })
     }
 }
 

@@ -2,7 +2,7 @@
 // tokens are no instruction is known before.
 use crate::bytes::Kind;
 use crate::faults::{Expected, Fault, Spot};
-use crate::tokens::Token;
+use crate::pieces::Piece;
 use std::alloc::Global;
 
 // What is to come in a cell.
@@ -26,32 +26,21 @@ impl Due {
     // What is to come after this token; nothing where the token does not fit.
     fn after(self, token: &[u8]) -> Option<Due> {
         let word = Kind::Letter.all(token);
-        match self {
-            Due::Start => Due::either(word, Due::Assign, token == b"[".as_slice(), Due::StorePlace),
-            Due::Assign => Due::if_so(token == b"=".as_slice(), Due::Right),
-            Due::Right => Due::either(word, Due::Plus, token == b"[".as_slice(), Due::LoadPlace),
-            Due::Plus => Due::if_so(token == b"+".as_slice(), Due::Second),
-            Due::Second => Due::if_so(word, Due::End),
-            Due::LoadPlace => Due::if_so(word, Due::LoadClose),
-            Due::LoadClose => Due::if_so(token == b"]".as_slice(), Due::End),
-            Due::StorePlace => Due::if_so(word, Due::StoreClose),
-            Due::StoreClose => Due::if_so(token == b"]".as_slice(), Due::StoreAssign),
-            Due::StoreAssign => Due::if_so(token == b"=".as_slice(), Due::StoreRegister),
-            Due::StoreRegister => Due::if_so(word, Due::End),
-            Due::End => None,
-        }
-    }
-
-    fn if_so(fits: bool, next: Due) -> Option<Due> {
-        if fits { Some(next) } else { None }
-    }
-
-    fn either(first: bool, next: Due, second: bool, other: Due) -> Option<Due> {
-        if first {
-            Some(next)
-        } else {
-            Due::if_so(second, other)
-        }
+        Some(match (self, token) {
+            (Due::Start, b"[") => Due::StorePlace,
+            (Due::Start, _) if word => Due::Assign,
+            (Due::Assign, b"=") => Due::Right,
+            (Due::Right, b"[") => Due::LoadPlace,
+            (Due::Right, _) if word => Due::Plus,
+            (Due::Plus, b"+") => Due::Second,
+            (Due::Second | Due::StoreRegister, _) if word => Due::End,
+            (Due::LoadPlace, _) if word => Due::LoadClose,
+            (Due::LoadClose, b"]") => Due::End,
+            (Due::StorePlace, _) if word => Due::StoreClose,
+            (Due::StoreClose, b"]") => Due::StoreAssign,
+            (Due::StoreAssign, b"=") => Due::StoreRegister,
+            _ => return None,
+        })
     }
 
     fn expected(self) -> Expected {
@@ -69,14 +58,14 @@ impl Due {
 }
 
 // The fault of tokens that are no instruction: at the first one that does not fit, or at the end of the cell.
-pub fn misfit(heap: Global, tokens: &[Token<'_>], end: Spot) -> Fault {
+pub fn misfit(heap: Global, tokens: &[Piece<'_>], end: Spot) -> Fault {
     if let [only] = tokens {
-        return only.spot.fault(heap, Expected::Instruction, only.text);
+        return only.fault(heap, Expected::Instruction);
     }
     let mut due = Due::Start;
     for token in tokens {
         let Some(next) = due.after(token.text) else {
-            return token.spot.fault(heap, due.expected(), token.text);
+            return token.fault(heap, due.expected());
         };
         due = next;
     }

@@ -1,16 +1,18 @@
 // A text read line by line, from left to right, onto a page of what has been read so far.
 ghost use Rattle.std.specs.Prelude.{◌≡◌, ◌<◌, map, vec_len};
+ghost use Rattle.std.proofs.Math.Option.{some, none};
+ghost use Rattle.model.specs.Code.{opt};
 ghost use Rattle.text.specs.Answers.{Answers};
 ghost use Rattle.text.specs.Bytes.{no_cr, pieces, has};
-ghost use Rattle.text.specs.Grammar.{names, does, cell, row, begins, each, content, line};
-ghost use Rattle.text.specs.Meaning.{token, places, column, page};
+ghost use Rattle.text.specs.Grammar.{names, does, cell, row, begins, each, content, line, blank_page, whole};
+ghost use Rattle.text.specs.Meaning.{token, places, column, page, listing, option};
 
 use crate::bytes::Kind;
 use crate::faults::{Expected, Fault, Spot};
-use crate::places::Places;
-use crate::source::Thread;
-use crate::tokens::Token;
-use crate::{bytes, cells, tokens};
+use crate::pieces::Piece;
+use crate::places::{Places, Words};
+use crate::source::{Source, Thread};
+use crate::{cells, tokens};
 use std::alloc::Global;
 
 // A program has one to four threads of at most eight instructions.
@@ -29,20 +31,16 @@ fn does(
     heap: Global,
     named: &mut Places,
     thread: &mut Thread,
-    tokens: &[Token<'_>],
+    tokens: &[Piece<'_>],
     end: Spot,
 ) -> Result<(), Fault>
     ensures { Answers result (λ _. (places named.new, column thread.new)) (does (places named.old) (column thread.old) (map token tokens.now)) }
 {
-    if tokens.is_empty() {
+    let Some(first) = tokens.first() else {
         return Ok(());
-    }
+    };
     if thread.code.len() >= MOST_INSTRUCTIONS {
-        return Err(
-            tokens[0]
-                .spot
-                .fault(heap, Expected::EightInstructions, tokens[0].text),
-        );
+        return Err(first.fault(heap, Expected::EightInstructions));
     }
     let instruction = cells::instruction(heap, named, tokens, end)?;
     thread.code.push(instruction)?;
@@ -50,99 +48,89 @@ fn does(
 }
 
 // A line without the CR that it may end in.
-fn without_cr(line: &[u8]) -> &[u8]
-    ensures { result.now ≡ no_cr line.now }
+fn without_cr(line: Piece<'_>) -> Piece<'_>
+    ensures { token result ≡ no_cr (token line.entry) }
 {
-    let n = line.len();
-    if n == 0 {
-        return line;
-    }
-    if line[n - 1] == b'\r' {
-        return &line[0..n - 1];
-    }
-    line
-}
-
-// The fault of a name that is not one token.
-fn misnamed(heap: Global, tokens: &[Token<'_>], spot: Spot) -> Fault {
-    if tokens.len() > 1 {
-        tokens[1]
-            .spot
-            .fault(heap, Expected::NameEnd, tokens[1].text)
-    } else {
-        spot.fault(heap, Expected::ThreadName, b"")
+    match line.text {
+        [text @ .., b'\r'] => Piece {
+            text,
+            spot: line.spot,
+        },
+        _ => line,
     }
 }
 
 impl Page {
-    // A cell of thread `k`.
-    fn cell(&mut self, heap: Global, k: usize, bytes: &[u8], spot: Spot) -> Result<(), Fault>
-        requires { k < vec_len self.old.threads }
-        ensures { Answers result (λ _. page self.new) (cell k (page self.old) bytes.now) }
+    // Where nothing has been read yet.
+    pub(crate) fn blank(heap: Global) -> Page
+        ensures { page result ≡ blank_page }
     {
-        let tokens = tokens::tokens(heap, bytes, spot)?;
+        Page {
+            threads: Vec::new(heap),
+            places: Places::Words(Words {
+                all: Vec::new(heap),
+            }),
+        }
+    }
+
+    // A cell of thread `k`.
+    fn cell(&mut self, heap: Global, k: usize, piece: Piece<'_>) -> Result<(), Fault>
+        requires { k < vec_len self.old.threads }
+        ensures { Answers result (λ _. page self.new) (cell k (page self.old) (token piece.entry)) }
+    {
+        let tokens = tokens::tokens(heap, piece)?;
         does(
             heap,
             &mut self.places,
             &mut self.threads[k],
             tokens.as_slice(),
-            spot.on(bytes.len()),
+            piece.end(),
         )?;
         Ok(())
     }
+
     // A line of cells.
-    fn row(&mut self, heap: Global, content: &[u8], start: Spot) -> Result<(), Fault>
-        ensures { Answers result (λ _. page self.new) (row 0 (page self.old) (pieces 124 content.now)) }
+    fn row(&mut self, heap: Global, content: Piece<'_>) -> Result<(), Fault>
+        ensures { Answers result (λ _. page self.new) (row 0 (page self.old) (pieces 124 (token content.entry))) }
     {
-        let mut rest = content;
-        let mut spot = start;
-        let mut bar = start;
-        let mut k = 0;
-        loop {
-            let n = Kind::But(b'|').run(rest);
+        let mut bar = content.spot;
+        for (k, cell) in content.split(b'|').enumerate() {
             if k >= self.threads.len() {
                 return Err(bar.fault(heap, Expected::LineEnd, b"|"));
             }
-            self.cell(heap, k, &rest[0..n], spot)?;
-            if n >= rest.len() {
-                return Ok(());
-            }
-            rest = &rest[n + 1..];
-            bar = spot.on(n);
-            spot = bar.on(1);
-            k += 1;
+            self.cell(heap, k, cell)?;
+            bar = cell.end();
         }
+        Ok(())
     }
 
     // Whether a thread has this name.
-    fn has(&self, word: &[u8]) -> bool
-        ensures { result ≡ has word.now (names (page self.now).columns) }
+    fn has(&self, name: Piece<'_>) -> bool
+        ensures { result ≡ has (token name.entry) (names (page self.now).columns) }
     {
-        for thread in self.threads.as_slice() {
-            if bytes::same(word, thread.name.as_bytes()) {
-                return true;
-            }
-        }
-        false
+        self.threads
+            .iter()
+            .any(|thread| name.is(thread.name.as_bytes()))
     }
 
     // One thread more, of this name.
-    fn begin(&mut self, heap: Global, cell: &[u8], spot: Spot) -> Result<(), Fault>
-        ensures { Answers result (λ _. page self.new) (begins (page self.old) cell.now) }
+    fn begin(&mut self, heap: Global, cell: Piece<'_>) -> Result<(), Fault>
+        ensures { Answers result (λ _. page self.new) (begins (page self.old) (token cell.entry)) }
     {
-        let tokens = tokens::tokens(heap, cell, spot)?;
-        if tokens.len() != 1 {
-            return Err(misnamed(heap, tokens.as_slice(), spot));
+        let tokens = tokens::tokens(heap, cell)?;
+        let word = match tokens.as_slice() {
+            [word] => *word,
+            [_, next, ..] => return Err(next.fault(heap, Expected::NameEnd)),
+            [] => return Err(cell.spot.fault(heap, Expected::ThreadName, b"")),
+        };
+        if !word.is_word() {
+            return Err(word.fault(heap, Expected::ThreadName));
         }
-        let word = tokens[0];
-        if !bytes::is_word(word.text) {
-            return Err(word.spot.fault(heap, Expected::ThreadName, word.text));
-        }
-        if self.has(word.text) {
-            return Err(word.spot.fault(heap, Expected::NewThreadName, word.text));
+        if self.has(word) {
+            return Err(word.fault(heap, Expected::NewThreadName));
         }
         if self.threads.len() >= MOST_THREADS {
-            return Err(word.spot.fault(heap, Expected::FourThreads, word.text));
+            return Err(word.fault(heap, Expected::FourThreads));
         }
         let name = String::from_utf8_lossy(heap, word.text)?;
         self.threads.push(Thread {
@@ -151,68 +139,65 @@ impl Page {
         })?;
         Ok(())
     }
+
     // The line that names the threads.
-    fn heading(&mut self, heap: Global, content: &[u8], start: Spot) -> Result<(), Fault>
-        ensures { Answers result (λ _. page self.new) (each begins (page self.old) (pieces 124 content.now)) }
+    fn heading(&mut self, heap: Global, content: Piece<'_>) -> Result<(), Fault>
+        ensures { Answers result (λ _. page self.new) (each begins (page self.old) (pieces 124 (token content.entry))) }
     {
-        let mut rest = content;
-        let mut spot = start;
-        loop {
-            let n = Kind::But(b'|').run(rest);
-            self.begin(heap, &rest[0..n], spot)?;
-            if n >= rest.len() {
-                return Ok(());
-            }
-            rest = &rest[n + 1..];
-            spot = spot.on(n + 1);
+        for cell in content.split(b'|') {
+            self.begin(heap, cell)?;
         }
+        Ok(())
     }
 
     // What stands in a line before a comment.
-    fn content(&mut self, heap: Global, bytes: &[u8], spot: Spot) -> Result<(), Fault>
-        ensures { Answers result (λ _. page self.new) (content (page self.old) bytes.now) }
+    fn content(&mut self, heap: Global, piece: Piece<'_>) -> Result<(), Fault>
+        ensures { Answers result (λ _. page self.new) (content (page self.old) (token piece.entry)) }
     {
-        if Kind::Blank.all(bytes) {
+        if Kind::Blank.all(piece.text) {
             return Ok(());
         }
         if self.threads.is_empty() {
-            self.heading(heap, bytes, spot)
+            self.heading(heap, piece)
         } else {
-            self.row(heap, bytes, spot)
+            self.row(heap, piece)
         }
     }
 
-    fn line(&mut self, heap: Global, bytes: &[u8], spot: Spot) -> Result<(), Fault>
-        ensures { Answers result (λ _. page self.new) (line (page self.old) bytes.now) }
+    fn line(&mut self, heap: Global, piece: Piece<'_>) -> Result<(), Fault>
+        ensures { Answers result (λ _. page self.new) (line (page self.old) (token piece.entry)) }
     {
-        let text = without_cr(bytes);
-        let plain = Kind::Plain.run(text);
-        if plain < text.len() {
-            return Err(
-                spot.on(plain)
-                    .fault(heap, Expected::Text, &text[plain..plain + 1]),
-            );
+        let line = without_cr(piece);
+        let plain = Kind::Plain.run(line.text);
+        if plain < line.text.len() {
+            return Err(line.behind(plain).front(1).fault(heap, Expected::Text));
         }
-        self.content(heap, &text[0..Kind::But(b'#').run(text)], spot)
+        self.content(heap, line.front(Kind::But(b'#').run(line.text)))
     }
 
-    // Every line of a text; answers where the text ends.
-    pub fn lines(&mut self, heap: Global, text: &[u8]) -> Result<Spot, Fault>
+    // Every line of a text.
+    pub fn lines(&mut self, heap: Global, text: &[u8]) -> Result<(), Fault>
         ensures { Answers result (λ _. page self.new) (each line (page self.old) (pieces 10 text.now)) }
     {
-        let mut rest = text;
-        let mut spot = Spot { line: 1, column: 1 };
-        loop {
-            let n = Kind::But(b'\n').run(rest);
-            self.line(heap, &rest[0..n], spot)?;
-            if n >= rest.len() {
-                return Ok(spot.on(n));
-            }
-            rest = &rest[n + 1..];
-            spot = Spot {
-                line: spot.line.saturating_add(1),
-                column: 1,
-            };
+        for line in Piece::whole(text).split(b'\n') {
+            self.line(heap, line)?;
         }
+        Ok(())
+    }
+
+    // The program on a page, once its threads are named.
+    pub(crate) fn whole(self, heap: Global) -> Option<Source>
+        ensures { opt (option result) none (λ s. some (listing s)) ≡ whole (page self) }
+    {
+        if self.threads.is_empty() {
+            return None;
+        }
+        Some(Source {
+            threads: self.threads,
+            places: match self.places {
+                Places::Numerals => Vec::new(heap),
+                Places::Words(words) => words.all,
+            },
+        })
     }
 }

@@ -11,19 +11,19 @@ ghost use Rattle.std.proofs.Math.Option.{some};
 ghost use Rattle.text.specs.Parts.{gap, behind, part};
 
 use crate::source::{Source, Thread};
-use program::instructions::{Instruction, Place};
+use program::instructions::{Instruction, Place, Register};
 use std::alloc::{AllocError, Global};
+use std::iter::repeat_n;
 
 // A place by its name, or by its numeral where it has none.
 pub fn place(heap: Global, names: &[String], x: Place) -> Result<String, AllocError>
     ensures { IfOk result (λ s. string_bytes s ≡ show_place (words names.now) x.0) }
 {
-    let x = x.0;
-    let k = x as usize;
-    if k < names.len() {
-        return String::from_str(heap, names[k].as_str());
+    let Place(x) = x;
+    match names.get(x as usize) {
+        Some(name) => String::from_str(heap, name.as_str()),
+        None => format!(in heap; "{x}"),
     }
-    format!(in heap; "{x}")
 }
 
 // An instruction as it stands in a cell.
@@ -31,66 +31,37 @@ pub fn cell_text(heap: Global, names: &[String], i: Instruction) -> Result<Strin
     ensures { IfOk result (λ s. string_bytes s ≡ show_i (words names.now) (instruction i)) }
 {
     match i {
-        Instruction::Set(r, n) => {
-            let r = r.0;
-            format!(in heap; "r{r} = {n}")
-        }
-        Instruction::Add(r, a, b) => {
-            let r = r.0;
-            let a = a.0;
-            let b = b.0;
+        Instruction::Set(Register(r), n) => format!(in heap; "r{r} = {n}"),
+        Instruction::Add(Register(r), Register(a), Register(b)) => {
             format!(in heap; "r{r} = r{a} + r{b}")
         }
-        Instruction::Load(r, x) => {
-            let r = r.0;
+        Instruction::Load(Register(r), x) => {
             let x = place(heap, names, x)?;
             format!(in heap; "r{r} = [{x}]")
         }
-        Instruction::Store(x, r) => {
+        Instruction::Store(x, Register(r)) => {
             let x = place(heap, names, x)?;
-            let r = r.0;
             format!(in heap; "[{x}] = r{r}")
         }
         Instruction::Fence => String::from_str(heap, "fence"),
     }
 }
 
-// The cell of line `j` in a thread's column: its name in line 0, else an instruction or nothing.
-fn cell(heap: Global, names: &[String], thread: &Thread, j: usize) -> Result<String, AllocError>
-    ensures { IfOk result (λ s. string_bytes s ≡ show_cell (words names.now) (column thread.now) j) }
-{
-    if j == 0 {
-        return String::from_str(heap, thread.name.as_str());
-    }
-    if j - 1 < thread.code.len() {
-        return cell_text(heap, names, thread.code[j - 1]);
-    }
-    Ok(String::new(heap))
-}
-
-// The width of a thread's column.
-fn width_of(heap: Global, names: &[String], thread: &Thread) -> Result<usize, AllocError>
-    ensures { IfOk result (λ w. w ≡ width (words names.now) (column thread.now)) }
-{
-    let mut most = thread.name.len();
-    for i in thread.code.as_slice() {
-        let text = cell_text(heap, names, *i)?;
-        most = most.max(text.len());
-    }
-    Ok(most)
-}
-
 // The blank before column `k`.
 fn put_gap(out: &mut String, k: usize, nothing: bool) -> Result<(), AllocError>
     ensures { OnOk result (string_bytes out.new ≡ string_bytes out.old ++ gap k nothing) }
 {
-    if k == 0 {
-        return Ok(());
+    if k == 0 || nothing {
+        Ok(())
+    } else {
+        out.push(' ')
     }
-    if nothing {
-        return Ok(());
-    }
-    out.push(' ')
+}
+
+fn put_blanks(out: &mut String, blanks: usize) -> Result<(), AllocError>
+    ensures { OnOk result (string_bytes out.new ≡ string_bytes out.old ++ replicate blanks 32) }
+{
+    out.extend(repeat_n(' ', blanks))
 }
 
 // What stands behind a cell.
@@ -100,30 +71,8 @@ fn put_behind(out: &mut String, last: bool, blanks: usize) -> Result<(), AllocEr
     if last {
         return Ok(());
     }
-    for _ in 0..blanks {
-        out.push_str(" ")?;
-    }
+    put_blanks(out, blanks)?;
     out.push_str(" |")?;
-    Ok(())
-}
-
-// Column `k` of line `j`.
-fn put_part(
-    heap: Global,
-    out: &mut String,
-    names: &[String],
-    thread: &Thread,
-    j: usize,
-    k: usize,
-    last: bool,
-) -> Result<(), AllocError>
-    ensures { OnOk result (string_bytes out.new ≡ string_bytes out.old ++ part (words names.now) j k last (column thread.now)) }
-{
-    let text = cell(heap, names, thread, j)?;
-    let width = width_of(heap, names, thread)?;
-    put_gap(out, k, ends(last, text.as_bytes()))?;
-    out.push_str(text.as_str())?;
-    put_behind(out, last, width.saturating_sub(text.len()))?;
     Ok(())
 }
 
@@ -134,48 +83,87 @@ fn ends(last: bool, text: &[u8]) -> bool
     last && text.is_empty()
 }
 
-// Line `j`.
-fn put_line(
+// The names of a program's places, and memory for what is printed with them.
+#[derive(Clone, Copy)]
+struct Names<'a> {
     heap: Global,
-    out: &mut String,
-    names: &[String],
-    threads: &[Thread],
-    j: usize,
-) -> Result<(), AllocError>
-    ensures { OnOk result (string_bytes out.new ≡ string_bytes out.old ++ show_line (words names.now) j (map column threads.now)) }
-{
-    for k in 0..threads.len() {
-        put_part(heap, out, names, &threads[k], j, k, k + 1 == threads.len())?;
+    places: &'a [String],
+}
+
+impl Names<'_> {
+    // The cell of line `j` in a thread's column: its name in line 0, else an instruction or nothing.
+    fn cell(self, thread: &Thread, j: usize) -> Result<String, AllocError>
+        ensures { IfOk result (λ s. string_bytes s ≡ show_cell (words self.entry.places.now) (column thread.now) j) }
+    {
+        let Some(row) = j.checked_sub(1) else {
+            return String::from_str(self.heap, thread.name.as_str());
+        };
+        match thread.code.get(row) {
+            Some(i) => cell_text(self.heap, self.places, *i),
+            None => Ok(String::new(self.heap)),
+        }
     }
-    Ok(())
+
+    // The width of a thread's column.
+    fn width(self, thread: &Thread) -> Result<usize, AllocError>
+        ensures { IfOk result (λ w. w ≡ width (words self.entry.places.now) (column thread.now)) }
+    {
+        let mut most = thread.name.len();
+        for i in &thread.code {
+            most = most.max(cell_text(self.heap, self.places, *i)?.len());
+        }
+        Ok(most)
+    }
+
+    // Column `k` of line `j`.
+    fn put_part(
+        self,
+        out: &mut String,
+        thread: &Thread,
+        j: usize,
+        k: usize,
+        last: bool,
+    ) -> Result<(), AllocError>
+        ensures { OnOk result (string_bytes out.new ≡ string_bytes out.old ++ part (words self.entry.places.now) j k last (column thread.now)) }
+    {
+        let text = self.cell(thread, j)?;
+        let width = self.width(thread)?;
+        put_gap(out, k, ends(last, text.as_bytes()))?;
+        out.push_str(text.as_str())?;
+        put_behind(out, last, width.saturating_sub(text.len()))?;
+        Ok(())
+    }
+
+    // Line `j`.
+    fn put_line(self, out: &mut String, threads: &[Thread], j: usize) -> Result<(), AllocError>
+        ensures { OnOk result (string_bytes out.new ≡ string_bytes out.old ++ show_line (words self.entry.places.now) j (map column threads.now)) }
+    {
+        for (k, thread) in threads.iter().enumerate() {
+            self.put_part(out, thread, j, k, k + 1 == threads.len())?;
+        }
+        Ok(())
+    }
+
+    // The lines below the first.
+    fn put_rows(self, out: &mut String, threads: &[Thread], rows: usize) -> Result<(), AllocError>
+        ensures { OnOk result (string_bytes out.new ≡ string_bytes out.old ++ show_lines (record { columns = map column threads.now; places = words self.entry.places.now }) 1 rows) }
+    {
+        // By number, since a row is no thing of its own: it has an instruction of each thread that is so long.
+        for j in 0..rows {
+            self.put_line(out, threads, j + 1)?;
+            out.push_str("\n")?;
+        }
+        Ok(())
+    }
 }
 
 // How many instructions the longest thread has.
 fn height_of(threads: &[Thread]) -> usize
     ensures { result ≡ height (map (λ (t : Column). t.code) (map column threads.now)) }
 {
-    let mut most = 0;
-    for thread in threads {
-        most = thread.code.len().max(most);
-    }
-    most
-}
-
-// The lines below the first.
-fn put_rows(heap: Global, out: &mut String, source: &Source, rows: usize) -> Result<(), AllocError>
-    ensures { OnOk result (string_bytes out.new ≡ string_bytes out.old ++ show_lines (listing source.now) 1 rows) }
-{
-    for j in 0..rows {
-        put_line(
-            heap,
-            out,
-            source.places.as_slice(),
-            source.threads.as_slice(),
-            j + 1,
-        )?;
-        out.push_str("\n")?;
-    }
-    Ok(())
+    threads
+        .iter()
+        .fold(0, |most, thread| thread.code.len().max(most))
 }
 
 // The text of a program with its names.
@@ -183,15 +171,14 @@ pub fn print(heap: Global, source: &Source) -> Result<String, AllocError>
     ensures text { IfOk result (λ s. string_bytes s ≡ shows (listing source.now)) }
     ensures back { IfOk result (λ s. Fine (listing source.now) → reads (string_bytes s) ≡ some (listing source.now)) }
 {
-    let mut out = String::new(heap);
-    put_line(
+    let names = Names {
         heap,
-        &mut out,
-        source.places.as_slice(),
-        source.threads.as_slice(),
-        0,
-    )?;
+        places: source.places.as_slice(),
+    };
+    let threads = source.threads.as_slice();
+    let mut out = String::new(heap);
+    names.put_line(&mut out, threads, 0)?;
     out.push_str("\n")?;
-    put_rows(heap, &mut out, source, height_of(source.threads.as_slice()))?;
+    names.put_rows(&mut out, threads, height_of(threads))?;
     Ok(out)
 }

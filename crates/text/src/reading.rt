@@ -5,7 +5,6 @@ ghost use Rattle.text.specs.Meaning.{listing};
 
 use crate::faults::{Expected, Fault, Found, Spot};
 use crate::pages::Page;
-use crate::places::Places;
 use crate::source::Source;
 use std::alloc::Global;
 
@@ -13,44 +12,14 @@ use std::alloc::Global;
 pub fn parse(heap: Global, text: &str) -> Result<Source, Fault>
     ensures { Answers result listing (reads text.now) }
 {
-    let mut page = Page {
-        threads: Vec::new(heap),
-        places: Places {
-            numerals: false,
-            words: Vec::new(heap),
-        },
-    };
-    let end = page.lines(heap, text.as_bytes())?;
-    if page.threads.is_empty() {
-        return Err(Fault::Refused {
-            line: end.line,
-            column: end.column,
-            expected: Expected::ThreadName,
-            found: Found::TextEnd,
-        });
-    }
-    let Page { threads, places } = page;
-    let Places { numerals: _, words } = places;
-    Ok(Source {
-        threads,
-        places: words,
+    let bytes = text.as_bytes();
+    let mut page = Page::blank(heap);
+    page.lines(heap, bytes)?;
+    page.whole(heap).ok_or_else(|| {
+        Spot::START
+            .past(bytes)
+            .refused(Expected::ThreadName, Found::TextEnd)
     })
-}
-
-// Where the byte `at` stands.
-fn spot_of(bytes: &[u8], at: usize) -> Spot {
-    let mut spot = Spot { line: 1, column: 1 };
-    for b in bytes.iter().take(at) {
-        spot = if *b == b'\n' {
-            Spot {
-                line: spot.line.saturating_add(1),
-                column: 1,
-            }
-        } else {
-            spot.on(1)
-        };
-    }
-    spot
 }
 
 // What bytes say that may be no text at all.
@@ -60,18 +29,9 @@ pub fn read(heap: Global, bytes: &[u8]) -> Result<Source, Fault>
     match std::str::from_utf8(bytes) {
         Ok(text) => parse(heap, text),
         Err(e) => {
-            let at = e.valid_up_to();
-            let spot = spot_of(bytes, at);
-            let found = match bytes.get(at) {
-                Some(b) => Found::Byte(*b),
-                None => Found::TextEnd,
-            };
-            Err(Fault::Refused {
-                line: spot.line,
-                column: spot.column,
-                expected: Expected::Text,
-                found,
-            })
+            let (text, rest) = bytes.split_at(e.valid_up_to());
+            let found = rest.first().map_or(Found::TextEnd, |b| Found::Byte(*b));
+            Err(Spot::START.past(text).refused(Expected::Text, found))
         }
     }
 }

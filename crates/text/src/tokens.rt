@@ -2,52 +2,40 @@
 ghost use Rattle.std.specs.Prelude.{◌≡◌, map};
 ghost use Rattle.text.specs.Answers.{Answers};
 ghost use Rattle.text.specs.Bytes.{tokens};
-ghost use Rattle.text.specs.Kinds.{FirstToken};
+ghost use Rattle.text.specs.Kinds.{BeginsToken};
 ghost use Rattle.text.specs.Meaning.{token};
 
 use crate::bytes::Kind;
-use crate::faults::{Expected, Fault, Spot};
+use crate::faults::{Expected, Fault};
+use crate::pieces::Piece;
 use std::alloc::Global;
 
-#[derive(Clone, Copy)]
-pub struct Token<'a> {
-    pub text: &'a [u8],
-    pub spot: Spot,
-}
-
 // How many bytes the first word or sign has; none where neither begins.
-fn token_len(bytes: &[u8]) -> usize
-    ensures { FirstToken bytes.now result }
+fn token_len(bytes: &[u8]) -> Option<usize>
+    ensures { BeginsToken bytes.now result }
 {
-    let letters = Kind::Letter.run(bytes);
-    if letters > 0 {
-        return letters;
+    match bytes {
+        [b, ..] if Kind::Sign.has(*b) => Some(1),
+        [b, ..] if Kind::Letter.has(*b) => Some(Kind::Letter.run(bytes)),
+        _ => None,
     }
-    if bytes.is_empty() {
-        return 0;
-    }
-    if Kind::Sign.has(bytes[0]) { 1 } else { 0 }
 }
 
-pub fn tokens<'a>(heap: Global, cell: &'a [u8], spot: Spot) -> Result<Vec<Token<'a>>, Fault>
-    ensures { Answers result (λ v. map token v.items) (tokens cell.now) }
+pub fn tokens<'a>(heap: Global, cell: Piece<'a>) -> Result<Vec<Piece<'a>>, Fault>
+    ensures { Answers result (λ v. map token v.items) (tokens (token cell.entry)) }
 {
     let mut found = Vec::new(heap);
-    let mut i = 0;
-    while i < cell.len() {
-        if Kind::Blank.has(cell[i]) {
-            i += 1;
+    let mut rest = cell;
+    while let Some(b) = rest.text.first() {
+        if Kind::Blank.has(*b) {
+            rest = rest.behind(1);
             continue;
         }
-        let n = token_len(&cell[i..]);
-        if n == 0 {
-            return Err(spot.on(i).fault(heap, Expected::Text, &cell[i..i + 1]));
-        }
-        found.push(Token {
-            text: &cell[i..i + n],
-            spot: spot.on(i),
-        })?;
-        i += n;
+        let Some(n) = token_len(rest.text) else {
+            return Err(rest.front(1).fault(heap, Expected::Text));
+        };
+        found.push(rest.front(n))?;
+        rest = rest.behind(n);
     }
     Ok(found)
 }

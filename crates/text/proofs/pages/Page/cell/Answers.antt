@@ -3,7 +3,7 @@ use mathlib.Core.Option.{some}
 use Rattle.std.proofs.lemmas.List.{length-map, get_or-map, map-set}
 use Rattle.std.proofs.lemmas.Result.{err_from_is_err_and}
 use Rattle.model.specs.Code.{nth}
-use Rattle.text.specs.declared.tokens.Token.{Token}
+use Rattle.text.specs.declared.pieces.Piece.{Piece}
 use Rattle.text.specs.declared.source.Thread.{Thread}
 use Rattle.text.specs.Grammar.{Column}
 use Rattle.text.specs.Meaning.{token, places, column, page}
@@ -20,18 +20,18 @@ pub returns-in_err-does : goal.returns-in_err-does
 returns-in_err-does c =
     let p = err_from_is_err_and c.from_residual-in_err-does.result c.from_residual-in_err-does.ensures.1 in
     let fits = c.args.self.now.threads.ok.0 in
-    let seen = c.in_ok-tokens.ensures ∙ ap (λ (ts : List Token). some (map token ts)) (sym c.as_slice.ensures.value) in
+    let seen = c.in_ok-tokens.ensures ∙ ap (λ (ts : List Piece). some (map token ts)) (sym c.as_slice.ensures.value) in
     rw (p.1, p.2) (λ refusal.
-    cell_not c.args.k (page c.args.self.now) c.args.bytes.now (column c.index_mut.result.now)
+    cell_not c.args.k (page c.args.self.now) (token c.args.piece) (column c.index_mut.result.now)
     (lent (vec_items c.args.self.now.threads) c.args.k c.index_mut.result.now (omega arith) c.index_mut.ensures.value)
     _ seen (c.in_err-does.ensures refusal))
 
 pub returns : goal.returns
 returns c =
     let fits = c.args.self.now.threads.ok.0 in
-    let seen = c.in_ok-tokens.ensures ∙ ap (λ (ts : List Token). some (map token ts)) (sym c.as_slice.ensures.value) in
+    let seen = c.in_ok-tokens.ensures ∙ ap (λ (ts : List Piece). some (map token ts)) (sym c.as_slice.ensures.value) in
     let threads = vec_items c.args.self.now.threads in
-    cell_is c.args.k (page c.args.self.now) c.args.bytes.now (column c.index_mut.result.now)
+    cell_is c.args.k (page c.args.self.now) (token c.args.piece) (column c.index_mut.result.now)
     (lent threads c.args.k c.index_mut.result.now (omega arith) c.index_mut.ensures.value)
     _ (places c.does.new.named) (column c.does.new.thread) seen c.in_ok-does.ensures
     ∙ (λ i. some (record { columns = (put_set (map column threads) c.args.k (column c.does.new.thread) ∙ sym (map-set column threads c.args.k c.does.new.thread)) i; places = places c.does.new.named }))

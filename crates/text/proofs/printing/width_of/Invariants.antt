@@ -1,8 +1,0 @@
-use Rattle.std.proofs.Common.{◌≡◌, drop}
-use Rattle.text.specs.Meaning.{words, column}
-use Rattle.text.specs.Shows.{widest, width}
-use Rattle.text.proofs.printing.width_of.Given as goal
-
--- the instructions that are left make of it the whole width
-abbrev pub invariant-loop-i : goal.invariant-loop-i
-invariant-loop-i l = width (words l.names) (column l.thread) ≡ widest (words l.names) l.most (drop l.i-index (column l.thread).code)
