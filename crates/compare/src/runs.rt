@@ -134,7 +134,7 @@ fn is_allowed(events: &[Event], order: &[Event]) -> bool {
 }
 
 // What is wrong with a told run, if anything is: `rows` are the program's outcomes by orders.
-pub fn fault(
+pub fn fault_of(
     heap: Global,
     threads: &[Vec<Instruction>],
     moves: &[u32],
