@@ -21,16 +21,12 @@ pub struct Request {
 }
 
 fn option(text: &str) -> Option<Mode> {
-    if text == "--help" {
-        return Some(Mode::Help);
+    match text {
+        "--help" => Some(Mode::Help),
+        "--to-words" => Some(Mode::ToWords),
+        "--words" => Some(Mode::Words),
+        _ => None,
     }
-    if text == "--to-words" {
-        return Some(Mode::ToWords);
-    }
-    if text == "--words" {
-        return Some(Mode::Words);
-    }
-    None
 }
 
 // The request with one more argument.

@@ -31,8 +31,15 @@ pub fn name(heap: Global, file: &Option<String>) -> Result<String, AllocError> {
     }
 }
 
+// A program, and how messages name what it was read from.
+#[derive(Drop)]
+pub struct Input {
+    pub name: String,
+    pub source: Source,
+}
+
 // The program in the file, or in standard input where none is named.
-pub fn source(rt: &HostRuntime, file: &Option<String>) -> Result<Source, Trouble> {
+pub fn read(rt: &HostRuntime, file: &Option<String>) -> Result<Input, Trouble> {
     let read = match file {
         Some(file) => file_bytes(rt, file.as_str()),
         None => bytes_of(rt.alloc(), rt.stdin()),
@@ -46,7 +53,7 @@ pub fn source(rt: &HostRuntime, file: &Option<String>) -> Result<Source, Trouble
         return Err(Trouble::LongFile { file: name });
     }
     match reading::read(rt.alloc(), bytes.as_slice()) {
-        Ok(source) => Ok(source),
+        Ok(source) => Ok(Input { name, source }),
         Err(Fault::Memory) => Err(Trouble::Memory),
         Err(fault) => Err(Trouble::Refused { file: name, fault }),
     }

@@ -6,15 +6,13 @@ use std::alloc::{AllocError, Global};
 pub fn parse(heap: Global, line: u64, bytes: &[u8]) -> Result<Vec<u32>, Trouble> {
     let mut words = Vec::new(heap);
     let mut word = None;
-    for k in 0..bytes.len() {
-        match bytes[k] {
+    for (k, byte) in bytes.iter().enumerate() {
+        match *byte {
             b @ b'0'..=b'9' => {
-                let Some(more) = with_digit(word, b - b'0') else {
-                    return Err(Trouble::LargeNumber {
-                        line,
-                        column: k + 1,
-                    });
-                };
+                let more = with_digit(word, b - b'0').ok_or(Trouble::LargeNumber {
+                    line,
+                    column: k + 1,
+                })?;
                 word = Some(more);
             }
             b' ' | b'\t' | b'\r' => {
@@ -49,11 +47,9 @@ fn push(words: &mut Vec<u32>, word: Option<u32>) -> Result<(), AllocError> {
 // Numbers in a line, with a blank between each two.
 pub fn line(heap: Global, words: &[u32]) -> Result<String, AllocError> {
     let mut text = String::new(heap);
-    for k in 0..words.len() {
-        if k > 0 {
-            text.push_str(" ")?;
-        }
-        text.push_str(words[k].to_string(heap)?.as_str())?;
+    for (k, word) in words.iter().enumerate() {
+        let blank = if k == 0 { "" } else { " " };
+        write!(text, "{blank}{word}")?;
     }
     Ok(text)
 }

@@ -34,23 +34,14 @@ fn names(i: Instruction, x: u32) -> bool {
 }
 
 fn thread_uses(thread: &Thread, r: u32) -> bool {
-    for i in thread.code.as_slice() {
-        if uses(*i, r) {
-            return true;
-        }
-    }
-    false
+    thread.code.iter().any(|i| uses(*i, r))
 }
 
 fn program_names(source: &Source, x: u32) -> bool {
-    for thread in source.threads.as_slice() {
-        for i in thread.code.as_slice() {
-            if names(*i, x) {
-                return true;
-            }
-        }
-    }
-    false
+    source
+        .threads
+        .iter()
+        .any(|thread| thread.code.iter().any(|i| names(*i, x)))
 }
 
 // Adds the registers that a thread uses, the first of which stands at `at`.
@@ -93,14 +84,17 @@ fn push_places(
     Ok(())
 }
 
+// Where the registers of thread `n` begin, or memory behind those of `n` threads.
+fn first_of(n: usize) -> usize {
+    n.saturating_mul(REGISTERS as usize)
+}
+
 // All that is shown, registers before places.
 pub fn of_program(heap: Global, source: &Source) -> Result<Vec<Shown>, AllocError> {
     let mut all = Vec::new(heap);
-    let mut at = 0usize;
-    for thread in source.threads.as_slice() {
-        push_registers(heap, &mut all, thread, at)?;
-        at = at.saturating_add(REGISTERS as usize);
+    for (n, thread) in source.threads.iter().enumerate() {
+        push_registers(heap, &mut all, thread, first_of(n))?;
     }
-    push_places(heap, &mut all, source, at)?;
+    push_places(heap, &mut all, source, first_of(source.threads.len()))?;
     Ok(all)
 }

@@ -1,5 +1,9 @@
 // Why a program gives no answer. It says so on standard error, and ends with status 1.
+ghost use Rattle.std.specs.Prelude.{◌≡◌, ◌↔◌, IsOk};
+ghost use Rattle.std.specs.Process.{exit_status};
+
 use std::alloc::{AllocError, AllocFailed};
+use std::process::ExitCode;
 use std::{fmt, io};
 use text::faults::Fault;
 
@@ -22,7 +26,31 @@ pub enum Trouble {
     // a number that is no word
     LargeNumber { line: u64, column: usize },
     // a program for which the call that was to answer says why it does not
-    Unanswered { file: String, why: &'static str },
+    Unanswered { file: String, why: Why },
+}
+
+// Why a call gives no answer for a program that could be read.
+#[derive(Clone, Copy, PartialEq, Eq, Debug)]
+pub enum Why {
+    Crowded,
+    // too few words for a run and fences
+    RunFull,
+    // too few words for all outcomes
+    OutcomesFull,
+    NoProgram,
+    Few,
+}
+
+impl fmt::Display for Why {
+    fn fmt<W: fmt::Write>(&self, f: &mut fmt::Formatter<W>) -> fmt::Result {
+        f.write_str(match *self {
+            Why::Crowded => "crowded: more states than 4 MiB hold",
+            Why::RunFull => "out full: too few words for the answer",
+            Why::OutcomesFull => "out full: more outcomes than 4 MiB hold",
+            Why::NoProgram => "no program",
+            Why::Few => "few: too little memory is lent",
+        })
+    }
 }
 
 impl From<AllocError> for Trouble {
@@ -74,11 +102,16 @@ impl fmt::Display for Trouble {
     }
 }
 
-// Says what went wrong, if anything did, and hands it on for `main` to return.
-pub fn report(rt: &HostRuntime, res: Result<(), Trouble>) -> Result<(), Trouble> {
-    if let Err(trouble) = &res {
-        // a message that can't be written can't be told either
-        let _ = eprintln!(rt; "{trouble}");
+// Says what went wrong, if anything did, and how the process is to end.
+pub fn status(rt: &HostRuntime, outcome: Result<(), Trouble>) -> ExitCode
+    ensures { exit_status result ≡ 0 ↔ IsOk outcome }
+{
+    match outcome {
+        Ok(()) => ExitCode::SUCCESS,
+        Err(trouble) => {
+            // a message that can't be written can't be told either
+            let _ = eprintln!(rt; "{trouble}");
+            ExitCode::FAILURE
+        }
     }
-    res
 }

@@ -24,10 +24,8 @@ pub fn ask(heap: Global, threads: &[Vec<Instruction>]) -> Result<Answer, AllocEr
     let waiting = outcomes_by(heap, Rule::Waiting, threads)?;
     let at_once = outcomes_by(heap, Rule::AtOnce, threads)?;
     // where no list worked none would be told, which the other answer never says of a program that is not plain
-    let fences = match fewest_fences(heap, threads)? {
-        Some(found) => found.spots,
-        None => Vec::new(heap),
-    };
+    let found = fewest_fences(heap, threads)?;
+    let fences = found.map_or(Vec::new(heap), |found| found.spots);
     Ok(Answer {
         rows: rows(heap, &waiting, &at_once)?,
         plain: waiting.is_subset(&at_once),

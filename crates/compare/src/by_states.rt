@@ -1,8 +1,8 @@
 // The first answer, by the calls that are compared: `look` and `outcomes`, with memory lent to them.
 use crate::answers::{Answer, Said};
+use cli::lending::Lent;
 use fences::listing::Listed;
 use fences::looking::Looked;
-use fences::{listing, looking};
 use orders::threads::Spot;
 use std::alloc::{AllocError, Global};
 
@@ -15,12 +15,6 @@ const WORK: usize = 65_536 + 128 * 50_001;
 // Room for all outcomes of such a program.
 const OUT: usize = 262_144;
 
-#[derive(Drop)]
-pub struct Lent {
-    work: Vec<u32>,
-    out: Vec<u32>,
-}
-
 // What was said, and the moves of the run that was told.
 #[derive(Drop)]
 pub struct First {
@@ -28,30 +22,8 @@ pub struct First {
     pub moves: Vec<u32>,
 }
 
-impl Lent {
-    pub fn new(heap: Global) -> Result<Lent, AllocError> {
-        let work = vec![in heap; 0u32; WORK]?;
-        let out = vec![in heap; 0u32; OUT]?;
-        Ok(Lent { work, out })
-    }
-
-    fn look(&mut self, words: &[u32]) -> Looked {
-        looking::look(
-            words,
-            STATES,
-            self.out.as_mut_slice(),
-            self.work.as_mut_slice(),
-        )
-    }
-
-    fn outcomes(&mut self, words: &[u32]) -> Listed {
-        listing::outcomes(
-            words,
-            STATES,
-            self.out.as_mut_slice(),
-            self.work.as_mut_slice(),
-        )
-    }
+pub fn lent(heap: Global) -> Result<Lent, AllocError> {
+    Lent::new(heap, STATES, WORK, OUT)
 }
 
 fn looked_name(looked: Looked) -> &'static str {
@@ -83,31 +55,27 @@ fn rows(
     count: usize,
 ) -> Result<Vec<Vec<u32>>, AllocError> {
     let threads = words.first().copied().unwrap_or(0).min(4) as usize;
-    let mut rows = Vec::new(heap);
-    for row in out.chunks_exact(9 + 4 * threads).take(count) {
-        rows.push(row.to_vec(heap)?)?;
-    }
+    let mut rows: Vec<Vec<u32>> = out
+        .chunks_exact(9 + 4 * threads)
+        .take(count)
+        .map(|row| row.to_vec(heap))
+        .try_collect(heap)?;
     rows.sort()?;
     Ok(rows)
 }
 
-// `count` words from `at` on, as far as there are so many.
-fn part(heap: Global, words: &[u32], at: usize, count: usize) -> Result<Vec<u32>, AllocError> {
-    words.iter().skip(at).take(count).copied().collect(heap)
-}
-
 // Thread and instruction of each fence.
 fn spots(heap: Global, words: &[u32]) -> Result<Vec<Spot>, AllocError> {
-    let mut spots = Vec::new(heap);
-    for spot in words.chunks_exact(2) {
-        if let [thread, index] = *spot {
-            spots.push(Spot {
+    words
+        .chunks_exact(2)
+        .filter_map(|spot| match *spot {
+            [thread, index] => Some(Spot {
                 thread: thread as usize,
                 index: index as usize,
-            })?;
-        }
-    }
-    Ok(spots)
+            }),
+            _ => None,
+        })
+        .collect(heap)
 }
 
 // What the two calls say of the words.
@@ -117,8 +85,8 @@ pub fn ask(heap: Global, lent: &mut Lent, words: &[u32]) -> Result<First, AllocE
         Looked::Fences(told, fences) => (told, fences.saturating_mul(2)),
         _ => (0, 0),
     };
-    let moves = part(heap, lent.out.as_slice(), 0, told)?;
-    let fences = part(heap, lent.out.as_slice(), told, count)?;
+    let moves = lent.told(0, told).to_vec(heap)?;
+    let fences = spots(heap, lent.told(told, count))?;
     let said = match (looked, lent.outcomes(words)) {
         (Looked::NoProgram, Listed::NoProgram) => Said::NoProgram,
         (Looked::Crowded, Listed::Crowded) => Said::Crowded,
@@ -126,7 +94,7 @@ pub fn ask(heap: Global, lent: &mut Lent, words: &[u32]) -> Result<First, AllocE
             Answer {
                 rows: rows(heap, lent.out.as_slice(), words, count)?,
                 plain: matches!(looked, Looked::Plain),
-                fences: spots(heap, fences.as_slice())?,
+                fences,
             },
         ),
         (looked, listed) => Said::Apart(looked_name(looked), listed_name(listed)),

@@ -1,171 +1,169 @@
 // Counts by kind of what was compared: how often each kind of words came up.
 use crate::answers::Said;
 use program::instructions::{Instruction, Place};
+use std::alloc::{AllocError, Global};
+use std::collections::{BTreeMap, BTreeSet};
+use std::fmt;
 
-const LINES: usize = 26;
-
-// Counts of programs, where nothing else is said.
-#[derive(Clone, Copy)]
-pub struct Counts {
-    words: u64,
-    no_program: u64,
-    crowded: u64,
-    // by how many fences they need, the last count for as many and more
-    fences: [u64; 5],
-    // by how many threads they have
-    threads: [u64; 5],
-    own_fence: u64,
-    empty_thread: u64,
-    full_thread: u64,
-    add: u64,
-    reread: u64,
-    // by the places that they read or write
-    places: [u64; 8],
-    pub differences: u64,
+// What is counted. Where nothing else is said, it is a program that has this.
+#[derive(Clone, Copy, PartialEq, Eq, PartialOrd, Ord, Debug)]
+pub enum Kind {
+    Words,
+    NoProgram,
+    Crowded,
+    // so many fences are needed, or as many and more where it is the last that is counted
+    Fences(usize),
+    Threads(usize),
+    OwnFence,
+    EmptyThread,
+    FullThread,
+    Sum,
+    Reread,
+    // it is read or written
+    Place(u32),
+    Differences,
 }
 
-// What a program has: its places are bits.
-#[derive(Clone, Copy)]
-struct Seen {
-    own_fence: bool,
-    empty_thread: bool,
-    full_thread: bool,
-    add: bool,
-    reread: bool,
-    places: u32,
+// All that is counted, in the order in which it is printed.
+const KINDS: [Kind; 26] = [
+    Kind::Words,
+    Kind::NoProgram,
+    Kind::Crowded,
+    Kind::Fences(0),
+    Kind::Fences(1),
+    Kind::Fences(2),
+    Kind::Fences(3),
+    Kind::Fences(4),
+    Kind::Threads(1),
+    Kind::Threads(2),
+    Kind::Threads(3),
+    Kind::Threads(4),
+    Kind::OwnFence,
+    Kind::EmptyThread,
+    Kind::FullThread,
+    Kind::Sum,
+    Kind::Reread,
+    Kind::Place(0),
+    Kind::Place(1),
+    Kind::Place(2),
+    Kind::Place(3),
+    Kind::Place(4),
+    Kind::Place(5),
+    Kind::Place(6),
+    Kind::Place(7),
+    Kind::Differences,
+];
+
+impl fmt::Display for Kind {
+    fn fmt<W: fmt::Write>(&self, f: &mut fmt::Formatter<W>) -> fmt::Result {
+        match *self {
+            Kind::Words => f.write_str("words"),
+            Kind::NoProgram => f.write_str("no program"),
+            Kind::Crowded => f.write_str("crowded"),
+            Kind::Fences(0) => f.write_str("plain"),
+            Kind::Fences(1) => f.write_str("one fence"),
+            Kind::Fences(2) => f.write_str("two fences"),
+            Kind::Fences(3) => f.write_str("three fences"),
+            Kind::Fences(_) => f.write_str("more fences"),
+            Kind::Threads(1) => f.write_str("one thread"),
+            Kind::Threads(2) => f.write_str("two threads"),
+            Kind::Threads(3) => f.write_str("three threads"),
+            Kind::Threads(_) => f.write_str("four threads"),
+            Kind::OwnFence => f.write_str("a thread with a fence"),
+            Kind::EmptyThread => f.write_str("a thread of no instruction"),
+            Kind::FullThread => f.write_str("a thread of eight instructions"),
+            Kind::Sum => f.write_str("a sum"),
+            Kind::Reread => f.write_str("a read of an own store"),
+            Kind::Place(place) => write!(f, "place {place}"),
+            Kind::Differences => f.write_str("differences"),
+        }
+    }
 }
 
-fn bit(place: Place) -> u32 {
-    1 << (place.0 % 8)
+fn stores_to(code: &[Instruction], end: usize, place: Place) -> bool {
+    code.iter().take(end).any(
+        |i| matches!(*i, Instruction::Store(stored, _) if stored.0 == place.0),
+    )
 }
 
-// What a program has with one more thread.
-fn with_thread(seen: Seen, code: &[Instruction]) -> Seen {
-    let mut seen = seen;
-    seen.empty_thread = seen.empty_thread || code.is_empty();
-    seen.full_thread = seen.full_thread || code.len() == 8;
-    let mut stored = 0;
-    for i in code {
+// Adds what a program has by one of its threads.
+fn add_thread(has: &mut BTreeSet<Kind>, code: &[Instruction]) -> Result<(), AllocError> {
+    if code.is_empty() {
+        has.insert(Kind::EmptyThread)?;
+    }
+    if code.len() == 8 {
+        has.insert(Kind::FullThread)?;
+    }
+    for (at, i) in code.iter().enumerate() {
         match *i {
             Instruction::Set(_, _) => {}
-            Instruction::Add(_, _, _) => seen.add = true,
-            Instruction::Fence => seen.own_fence = true,
+            Instruction::Add(_, _, _) => {
+                has.insert(Kind::Sum)?;
+            }
+            Instruction::Fence => {
+                has.insert(Kind::OwnFence)?;
+            }
             Instruction::Load(_, place) => {
-                seen.reread = seen.reread || stored & bit(place) != 0;
-                seen.places = seen.places | bit(place);
+                has.insert(Kind::Place(place.0))?;
+                if stores_to(code, at, place) {
+                    has.insert(Kind::Reread)?;
+                }
             }
             Instruction::Store(place, _) => {
-                stored = stored | bit(place);
-                seen.places = seen.places | bit(place);
+                has.insert(Kind::Place(place.0))?;
             }
         }
     }
-    seen
+    Ok(())
 }
 
-fn seen_in(threads: &[Vec<Instruction>]) -> Seen {
-    let mut seen = Seen {
-        own_fence: false,
-        empty_thread: false,
-        full_thread: false,
-        add: false,
-        reread: false,
-        places: 0,
-    };
-    for code in threads {
-        seen = with_thread(seen, code.as_slice());
-    }
-    seen
-}
-
-// One more, if so.
-fn more(count: u64, so: bool) -> u64 {
-    if so { count.saturating_add(1) } else { count }
-}
-
-// One more at `at`, or at the last where it is past the end.
-fn more_at(counts: &mut [u64], at: usize) {
-    let last = counts.len().saturating_sub(1);
-    if let Some(count) = counts.get_mut(at.min(last)) {
-        *count = more(*count, true);
-    }
+// How often each kind came up; none where it has no entry.
+#[derive(Drop)]
+pub struct Counts {
+    heap: Global,
+    by_kind: BTreeMap<Kind, u64>,
 }
 
 impl Counts {
-    pub fn new() -> Counts {
+    pub fn new(heap: Global) -> Counts {
         Counts {
-            words: 0,
-            no_program: 0,
-            crowded: 0,
-            fences: [0; 5],
-            threads: [0; 5],
-            own_fence: 0,
-            empty_thread: 0,
-            full_thread: 0,
-            add: 0,
-            reread: 0,
-            places: [0; 8],
-            differences: 0,
+            heap,
+            by_kind: BTreeMap::new(heap),
         }
     }
 
+    pub fn of(&self, kind: Kind) -> u64 {
+        self.by_kind.get(&kind).copied().unwrap_or(0)
+    }
+
+    pub fn add(&mut self, kind: Kind) -> Result<(), AllocError> {
+        let count = self.of(kind).saturating_add(1);
+        self.by_kind.insert(kind, count)?;
+        Ok(())
+    }
+
     // Counts words by what was said of them.
-    pub fn add_words(&mut self, said: &Said) {
-        self.words = more(self.words, true);
+    pub fn add_words(&mut self, said: &Said) -> Result<(), AllocError> {
+        self.add(Kind::Words)?;
         match said {
-            Said::NoProgram => self.no_program = more(self.no_program, true),
-            Said::Crowded => self.crowded = more(self.crowded, true),
-            Said::Program(answer) => more_at(&mut self.fences, answer.fences.len()),
-            Said::Apart(_, _) => {}
+            Said::NoProgram => self.add(Kind::NoProgram),
+            Said::Crowded => self.add(Kind::Crowded),
+            Said::Program(answer) => self.add(Kind::Fences(answer.fences.len().min(4))),
+            Said::Apart(_, _) => Ok(()),
         }
     }
 
     // Counts a program by what it has.
-    pub fn add_program(&mut self, threads: &[Vec<Instruction>]) {
-        let seen = seen_in(threads);
-        more_at(&mut self.threads, threads.len());
-        self.own_fence = more(self.own_fence, seen.own_fence);
-        self.empty_thread = more(self.empty_thread, seen.empty_thread);
-        self.full_thread = more(self.full_thread, seen.full_thread);
-        self.add = more(self.add, seen.add);
-        self.reread = more(self.reread, seen.reread);
-        for place in 0..8u32 {
-            if seen.places & bit(Place(place)) != 0 {
-                more_at(&mut self.places, place as usize);
-            }
+    pub fn add_program(&mut self, threads: &[Vec<Instruction>]) -> Result<(), AllocError> {
+        let mut has = BTreeSet::new(self.heap);
+        has.insert(Kind::Threads(threads.len()))?;
+        for code in threads {
+            add_thread(&mut has, code.as_slice())?;
         }
-    }
-
-    // Each count with what it counts.
-    fn lines(&self) -> [(&'static str, u64); LINES] {
-        [
-            ("words", self.words),
-            ("no program", self.no_program),
-            ("crowded", self.crowded),
-            ("plain", self.fences[0]),
-            ("one fence", self.fences[1]),
-            ("two fences", self.fences[2]),
-            ("three fences", self.fences[3]),
-            ("more fences", self.fences[4]),
-            ("one thread", self.threads[1]),
-            ("two threads", self.threads[2]),
-            ("three threads", self.threads[3]),
-            ("four threads", self.threads[4]),
-            ("a thread with a fence", self.own_fence),
-            ("a thread of no instruction", self.empty_thread),
-            ("a thread of eight instructions", self.full_thread),
-            ("a sum", self.add),
-            ("a read of an own store", self.reread),
-            ("place 0", self.places[0]),
-            ("place 1", self.places[1]),
-            ("place 2", self.places[2]),
-            ("place 3", self.places[3]),
-            ("place 4", self.places[4]),
-            ("place 5", self.places[5]),
-            ("place 6", self.places[6]),
-            ("place 7", self.places[7]),
-            ("differences", self.differences),
-        ]
+        for kind in has.iter() {
+            self.add(*kind)?;
+        }
+        Ok(())
     }
 }
 
@@ -177,11 +175,9 @@ pub fn print(
     damaged: &Counts,
 ) -> anyhow::Result<()> {
     println!(rt; "{:<31}{:>9}{:>9}{:>9}", "", "worked", "random", "damaged")?;
-    let (worked, random, damaged) = (worked.lines(), random.lines(), damaged.lines());
-    for k in 0..LINES {
-        let (name, first) = worked[k];
-        let (_, second) = random[k];
-        let (_, third) = damaged[k];
+    for kind in KINDS {
+        let name = kind.to_string(rt.alloc())?;
+        let (first, second, third) = (worked.of(kind), random.of(kind), damaged.of(kind));
         println!(rt; "{name:<31}{first:>9}{second:>9}{third:>9}")?;
     }
     Ok(())

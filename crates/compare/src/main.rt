@@ -11,9 +11,10 @@ mod differences;
 mod kinds;
 mod runs;
 
-use crate::by_states::Lent;
-use crate::kinds::Counts;
+use crate::by_states::lent;
+use crate::kinds::{Counts, Kind};
 use anyhow::anyhow;
+use cli::lending::Lent;
 use differences::compare;
 use generate::programs::{Limits, program_words};
 use generate::random::Random;
@@ -51,7 +52,7 @@ fn asked(rt: &HostRuntime) -> anyhow::Result<Request> {
 // The programs worked by hand, and one of too many states.
 fn compare_worked(rt: &HostRuntime, lent: &mut Lent) -> anyhow::Result<Counts> {
     let heap = rt.alloc();
-    let mut worked = Counts::new();
+    let mut worked = Counts::new(heap);
     for text in ALL {
         let words = words_in(heap, text)?;
         compare(rt, lent, words.as_slice(), &mut worked)?;
@@ -68,8 +69,8 @@ fn compare_random(
     request: Request,
 ) -> anyhow::Result<(Counts, Counts)> {
     let heap = rt.alloc();
-    let mut made = Counts::new();
-    let mut broken = Counts::new();
+    let mut made = Counts::new(heap);
+    let mut broken = Counts::new(heap);
     let mut random = Random::new(request.seed);
     for _ in 0..request.count {
         let words = program_words(heap, &mut random, LIMITS)?;
@@ -84,11 +85,12 @@ fn run(rt: &HostRuntime) -> anyhow::Result<()> {
     let request = asked(rt)?;
     let Request { count, seed } = request;
     println!(rt; "{count} programs made at random, seed {seed}")?;
-    let mut lent = Lent::new(rt.alloc())?;
+    let mut lent = lent(rt.alloc())?;
     let worked = compare_worked(rt, &mut lent)?;
     let (made, broken) = compare_random(rt, &mut lent, request)?;
     kinds::print(rt, &worked, &made, &broken)?;
-    if worked.differences > 0 || made.differences > 0 || broken.differences > 0 {
+    let all = [&worked, &made, &broken];
+    if all.iter().any(|counts| counts.of(Kind::Differences) > 0) {
         return Err(anyhow!("there are differences"));
     }
     Ok(())

@@ -14,7 +14,7 @@
 //
 // All orders can be made only of few reads and writes, so their number is bounded for the whole program, and the number of
 // instructions is not.
-ghost use Rattle.std.specs.Prelude.{◌≡◌, ◌+◌, ◌<◌, ◌≤◌, length, IfOk, vec_len, OnOk};
+ghost use Rattle.std.specs.Prelude.{◌<◌, ◌≤◌, length, IfOk, vec_len};
 
 use crate::random::Random;
 use program::instructions::{Instruction, Place, Register};
@@ -39,9 +39,11 @@ struct Plan {
     spare: u32,
 }
 
-// The i-th place of the ring. The stride is odd, so that eight in a row differ.
-fn ring_place(plan: &Plan, i: u32) -> Place {
-    Place(plan.start.wrapping_add(plan.stride.wrapping_mul(i)) % 8)
+impl Plan {
+    // The i-th place of the ring. The stride is odd, so that eight in a row differ.
+    fn place(&self, i: u32) -> Place {
+        Place(self.start.wrapping_add(self.stride.wrapping_mul(i)) % 8)
+    }
 }
 
 fn some_register(random: &mut Random) -> Register {
@@ -53,148 +55,188 @@ fn behind(register: Register, by: u32) -> Register {
     Register(register.0.wrapping_add(by) % 4)
 }
 
-// One of the three first places of the ring, and now and then another.
-fn some_place(random: &mut Random, plan: &Plan) -> Place {
-    let i = if random.one_in(12) {
-        random.below(8)
-    } else {
-        random.below(3)
-    };
-    ring_place(plan, i)
-}
-
 fn number(random: &mut Random, register: Register) -> Instruction {
     Instruction::Set(register, 1 + random.below(15))
 }
 
-// A store, mostly of the register that has a number above 0.
-fn store(random: &mut Random, place: Place, full: Register) -> Instruction {
-    if random.one_in(16) {
-        return Instruction::Store(place, some_register(random));
-    }
-    Instruction::Store(place, full)
-}
-
-// A load into one of the two registers for it.
-fn load(random: &mut Random, place: Place, full: Register) -> Instruction {
-    Instruction::Load(behind(full, 1 + random.below(2)), place)
-}
-
-// The place of the thread's first store, or any.
-fn stored_place(random: &mut Random, plan: &Plan, code: &[Instruction]) -> Place {
-    for instruction in code {
-        if let Instruction::Store(place, _) = instruction {
-            return *place;
-        }
-    }
-    some_place(random, plan)
-}
-
-// A load, a load of what the thread itself stores, or a store.
-fn event(random: &mut Random, plan: &Plan, code: &[Instruction], full: Register) -> Instruction {
-    match random.below(3) {
-        0 => {
-            let place = some_place(random, plan);
-            load(random, place, full)
-        }
-        1 => {
-            let place = stored_place(random, plan, code);
-            load(random, place, full)
-        }
-        _ => {
-            let place = some_place(random, plan);
-            store(random, place, full)
-        }
-    }
-}
-
-// A line that reads and writes nothing.
-fn filler(random: &mut Random, full: Register) -> Instruction {
-    let into = if random.one_in(6) {
-        some_register(random)
-    } else {
-        behind(full, 3)
-    };
-    match random.below(6) {
-        0 | 1 | 2 => number(random, into),
-        3 => Instruction::Fence,
-        _ => {
-            let first = some_register(random);
-            Instruction::Add(into, first, some_register(random))
-        }
-    }
-}
-
-// One more line, anywhere.
-fn add_line(
-    random: &mut Random,
-    plan: &mut Plan,
-    code: &mut Vec<Instruction>,
+// A thread that is being made, and the register of its with a number above 0.
+#[derive(Drop)]
+struct Draft<'a> {
+    random: &'a mut Random,
+    plan: &'a mut Plan,
     full: Register,
-) -> Result<(), AllocError>
-    ensures { OnOk result (vec_len code.new ≡ vec_len code.old + 1) }
-{
-    let line = if plan.spare > 0 && random.one_in(3) {
-        plan.spare -= 1;
-        event(random, plan, code.as_slice(), full)
-    } else {
-        filler(random, full)
-    };
-    let at = random.below(9) as usize;
-    if at <= code.len() {
-        code.insert(at, line)?;
-    } else {
-        code.push(line)?;
-    }
-    Ok(())
+    code: Vec<Instruction>,
+    ghost few: { vec_len code ≤ 8 },
 }
 
-// A few more lines, or lines up to eight instructions; and now and then one left out.
-fn vary(
-    random: &mut Random,
-    plan: &mut Plan,
-    code: &mut Vec<Instruction>,
-    full: Register,
-) -> Result<(), AllocError>
-    requires { vec_len code.old ≤ 8 }
-    ensures { OnOk result (vec_len code.new ≤ 8) }
-{
-    let at = random.below(40) as usize;
-    if at < code.len() {
-        code.remove(at);
+impl<'a> Draft<'a> {
+    // A thread whose first line puts a number into a register.
+    fn new(
+        heap: Global,
+        random: &'a mut Random,
+        plan: &'a mut Plan,
+    ) -> Result<Draft<'a>, AllocError> {
+        let full = some_register(random);
+        let code = vec![in heap; number(random, full)]?;
+        Ok(Draft {
+            random,
+            plan,
+            full,
+            code,
+        })
     }
-    let lines = if random.one_in(8) { 8 } else { random.below(4) };
-    for _ in 0..lines {
-        if code.len() < 8 {
-            add_line(random, plan, code, full)?;
+
+    // One of the three first places of the ring, and now and then another.
+    fn some_place(&mut self) -> Place {
+        let i = if self.random.one_in(12) {
+            self.random.below(8)
+        } else {
+            self.random.below(3)
+        };
+        self.plan.place(i)
+    }
+
+    // A store, mostly of the register that has a number above 0.
+    fn store(&mut self, place: Place) -> Instruction {
+        if self.random.one_in(16) {
+            return Instruction::Store(place, some_register(self.random));
+        }
+        Instruction::Store(place, self.full)
+    }
+
+    // A load into one of the two registers for it.
+    fn load(&mut self, place: Place) -> Instruction {
+        Instruction::Load(behind(self.full, 1 + self.random.below(2)), place)
+    }
+
+    // The place of the thread's first store, or any.
+    fn stored_place(&mut self) -> Place {
+        let stored = self.code.iter().find_map(|i| match *i {
+            Instruction::Store(place, _) => Some(place),
+            _ => None,
+        });
+        match stored {
+            Some(place) => place,
+            None => self.some_place(),
         }
     }
-    Ok(())
-}
 
-// An access to the thread's own place and one to the next thread's.
-fn add_accesses(
-    random: &mut Random,
-    code: &mut Vec<Instruction>,
-    full: Register,
-    own: Place,
-    other: Place,
-) -> Result<(), AllocError>
-    ensures { OnOk result (vec_len code.new ≡ vec_len code.old + 2) }
-{
-    let first = if random.one_in(20) {
-        load(random, own, full)
-    } else {
-        store(random, own, full)
-    };
-    let second = if random.one_in(12) {
-        store(random, other, full)
-    } else {
-        load(random, other, full)
-    };
-    code.push(first)?;
-    code.push(second)?;
-    Ok(())
+    // A load, a load of what the thread itself stores, or a store.
+    fn event(&mut self) -> Instruction {
+        match self.random.below(3) {
+            0 => {
+                let place = self.some_place();
+                self.load(place)
+            }
+            1 => {
+                let place = self.stored_place();
+                self.load(place)
+            }
+            _ => {
+                let place = self.some_place();
+                self.store(place)
+            }
+        }
+    }
+
+    // A line that reads and writes nothing.
+    fn filler(&mut self) -> Instruction {
+        let into = if self.random.one_in(6) {
+            some_register(self.random)
+        } else {
+            behind(self.full, 3)
+        };
+        match self.random.below(6) {
+            0 | 1 | 2 => number(self.random, into),
+            3 => Instruction::Fence,
+            _ => {
+                let first = some_register(self.random);
+                Instruction::Add(into, first, some_register(self.random))
+            }
+        }
+    }
+
+    // A line before the `at`-th, or behind the others where they are fewer, if there is room.
+    fn insert(&mut self, at: usize, line: Instruction) -> Result<(), AllocError> {
+        let len = self.code.len();
+        if len < 8 {
+            self.code.insert(at.min(len), line)?;
+        }
+        Ok(())
+    }
+
+    // A line behind the others, if there is room.
+    fn push(&mut self, line: Instruction) -> Result<(), AllocError> {
+        self.insert(8, line)
+    }
+
+    // One more load or store, if there may be one.
+    fn add_event(&mut self) -> Result<(), AllocError> {
+        if self.plan.spare == 0 {
+            return Ok(());
+        }
+        self.plan.spare -= 1;
+        let line = self.event();
+        self.push(line)
+    }
+
+    // At most three more loads and stores.
+    fn add_events(&mut self) -> Result<(), AllocError> {
+        let count = self.random.below(4);
+        for _ in 0..count {
+            self.add_event()?;
+        }
+        Ok(())
+    }
+
+    // One more line, anywhere, if there is room.
+    fn add_line(&mut self) -> Result<(), AllocError> {
+        if self.code.len() >= 8 {
+            return Ok(());
+        }
+        let line = if self.plan.spare > 0 && self.random.one_in(3) {
+            self.plan.spare -= 1;
+            self.event()
+        } else {
+            self.filler()
+        };
+        let at = self.random.below(9) as usize;
+        self.insert(at, line)
+    }
+
+    // A few more lines, or lines up to eight instructions; and now and then one left out.
+    fn vary(&mut self) -> Result<(), AllocError> {
+        let at = self.random.below(40) as usize;
+        if at < self.code.len() {
+            self.code.remove(at);
+        }
+        let lines = if self.random.one_in(8) {
+            8
+        } else {
+            self.random.below(4)
+        };
+        for _ in 0..lines {
+            self.add_line()?;
+        }
+        Ok(())
+    }
+
+    // An access to the thread's own place and one to the next thread's.
+    fn add_accesses(&mut self, own: u32, next: u32) -> Result<(), AllocError> {
+        let (own, next) = (self.plan.place(own), self.plan.place(next));
+        let first = if self.random.one_in(20) {
+            self.load(own)
+        } else {
+            self.store(own)
+        };
+        let second = if self.random.one_in(12) {
+            self.store(next)
+        } else {
+            self.load(next)
+        };
+        self.push(first)?;
+        self.push(second)
+    }
 }
 
 // The ring's `at`-th thread.
@@ -207,17 +249,15 @@ fn ring_thread(
     requires { at < 4 }
     ensures { IfOk result (λ v. vec_len v ≤ 8) }
 {
-    let full = some_register(random);
-    let mut code = Vec::new(heap);
-    code.push(number(random, full))?;
     let next = if at + 1 < plan.ring { at + 1 } else { 0 };
-    let (own, other) = (ring_place(plan, at), ring_place(plan, next));
-    add_accesses(random, &mut code, full, own, other)?;
-    if plan.twice {
-        let (own, other) = (ring_place(plan, at + 4), ring_place(plan, next + 4));
-        add_accesses(random, &mut code, full, own, other)?;
+    let twice = plan.twice;
+    let mut draft = Draft::new(heap, random, plan)?;
+    draft.add_accesses(at, next)?;
+    if twice {
+        draft.add_accesses(at + 4, next + 4)?;
     }
-    vary(random, plan, &mut code, full)?;
+    draft.vary()?;
+    let Draft { code, .. } = draft;
     Ok(code)
 }
 
@@ -229,17 +269,10 @@ fn free_thread(
 ) -> Result<Vec<Instruction>, AllocError>
     ensures { IfOk result (λ v. vec_len v ≤ 8) }
 {
-    let full = some_register(random);
-    let mut code = Vec::new(heap);
-    code.push(number(random, full))?;
-    for _ in 0..random.below(4) {
-        if plan.spare > 0 && code.len() < 8 {
-            plan.spare -= 1;
-            let line = event(random, plan, code.as_slice(), full);
-            code.push(line)?;
-        }
-    }
-    vary(random, plan, &mut code, full)?;
+    let mut draft = Draft::new(heap, random, plan)?;
+    draft.add_events()?;
+    draft.vary()?;
+    let Draft { code, .. } = draft;
     Ok(code)
 }
 

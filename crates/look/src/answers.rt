@@ -1,45 +1,16 @@
-// The answer for a program, with the memory that is lent for finding it: 3,801,024 bytes, which leaves room within 4 MiB
-// for the text, its names and what is printed.
-use fences::looking;
-use fences::looking::Looked;
+// The memory that is lent for an answer: 3,801,024 bytes, which leaves room within 4 MiB for the text, its names and what
+// is printed.
+use cli::lending::Lent;
 use std::alloc::{AllocError, Global};
 
 const WORK: usize = 950_000;
 
-// Enough for every answer.
+// Enough for every answer: moves, and behind them thread and instruction for each fence.
 const OUT: usize = 256;
 
 // So many states are allowed at the least: the call asks for 65,536 words, and 128 for each state and one more.
 const STATES: u32 = 6_908;
 
-#[derive(Drop)]
-pub struct Lent {
-    work: Vec<u32>,
-    // moves, and behind them thread and instruction for each fence
-    pub out: Vec<u32>,
-}
-
-impl Lent {
-    pub fn new(heap: Global) -> Result<Lent, AllocError> {
-        let work = vec![in heap; 0u32; WORK]?;
-        let out = vec![in heap; 0u32; OUT]?;
-        Ok(Lent { work, out })
-    }
-
-    // Looks at the program that the words are, and leaves a run and fences in `out` where it is not plain.
-    pub fn look(&mut self, words: &[u32]) -> Looked {
-        looking::look(
-            words,
-            STATES,
-            self.out.as_mut_slice(),
-            self.work.as_mut_slice(),
-        )
-    }
-}
-
-// At most `count` words, from the one at `at` on.
-pub fn part(words: &[u32], at: usize, count: usize) -> &[u32] {
-    let (_, rest) = words.split_at(at.min(words.len()));
-    let (part, _) = rest.split_at(count.min(rest.len()));
-    part
+pub fn lent(heap: Global) -> Result<Lent, AllocError> {
+    Lent::new(heap, STATES, WORK, OUT)
 }

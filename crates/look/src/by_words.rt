@@ -1,6 +1,6 @@
 // Programs as words, one to a line of standard input, and for each the answer on one line.
-use crate::answers;
-use crate::answers::Lent;
+use crate::answers::lent;
+use cli::lending::Lent;
 use cli::lines::Lines;
 use cli::numbers;
 use cli::troubles::Trouble;
@@ -11,8 +11,7 @@ fn answer_one(rt: &HostRuntime, lent: &mut Lent, words: &[u32]) -> Result<(), Tr
         Looked::Plain => rt.println("plain")?,
         Looked::Fences(moves, fences) => {
             let count = fences.saturating_mul(2).saturating_add(moves);
-            let told = answers::part(lent.out.as_slice(), 0, count);
-            let told = numbers::line(rt.alloc(), told)?;
+            let told = numbers::line(rt.alloc(), lent.told(0, count))?;
             println!(rt; "fences {moves} {fences} {told}")?;
         }
         Looked::Crowded => rt.println("crowded")?,
@@ -25,15 +24,9 @@ fn answer_one(rt: &HostRuntime, lent: &mut Lent, words: &[u32]) -> Result<(), Tr
 
 // Answers for each line in turn, up to the end or to the first line that is refused.
 pub fn answer(rt: &HostRuntime) -> Result<(), Trouble> {
-    let heap = rt.alloc();
-    let mut lent = Lent::new(heap)?;
-    let mut lines = Lines::new(rt)?;
-    for _ in 0..u64::MAX {
-        let Some(line) = lines.line(heap)? else {
-            break;
-        };
-        let words = numbers::parse(heap, lines.number, line.as_slice())?;
-        answer_one(rt, &mut lent, words.as_slice())?;
+    let mut lent = lent(rt.alloc())?;
+    for words in Lines::new(rt)? {
+        answer_one(rt, &mut lent, words?.as_slice())?;
     }
     Ok(())
 }

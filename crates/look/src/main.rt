@@ -6,11 +6,9 @@ mod by_words;
 mod moves;
 mod verdict;
 
-use cli::arguments::{Mode, Request};
 use cli::troubles::Trouble;
-use cli::{arguments, input, numbers, troubles};
+use cli::{arguments, running, troubles};
 use std::process::ExitCode;
-use text::words;
 
 const HELP: &str = "usage: look [--help | --to-words] [FILE]
        look --words
@@ -30,27 +28,15 @@ the fewest fences with which the program is plain; and the program with them in.
 docs/FORMAT.md says how programs are written.";
 
 fn run(rt: &HostRuntime) -> Result<(), Trouble> {
-    let Request { mode, file } = arguments::asked(rt)?;
-    match mode {
-        Mode::Help => rt.println(HELP)?,
-        Mode::Answer => {
-            let source = input::source(rt, &file)?;
-            verdict::answer(rt, &file, &source)?;
-        }
-        Mode::ToWords => {
-            let source = input::source(rt, &file)?;
-            let words = words::to_words(rt.alloc(), &source)?;
-            rt.println(numbers::line(rt.alloc(), words.as_slice())?)?;
-        }
-        Mode::Words => by_words::answer(rt)?,
-    }
-    Ok(())
+    running::run(
+        rt,
+        arguments::asked(rt)?,
+        HELP,
+        verdict::answer,
+        by_words::answer,
+    )
 }
 
 fn main(rt: HostRuntime) -> ExitCode {
-    // what went wrong is said by then, so that `main` says no more of it
-    match troubles::report(&rt, run(&rt)) {
-        Ok(()) => ExitCode::SUCCESS,
-        Err(_said) => ExitCode::FAILURE,
-    }
+    troubles::status(&rt, run(&rt))
 }

@@ -7,11 +7,21 @@ use std::alloc::{AllocError, Global};
 use text::printing;
 use text::source::{Source, Thread};
 
-// How many instructions of a thread are done, and how many of its stores are in memory.
-#[derive(Clone, Copy)]
-struct Progress {
+// The column of a thread: how many of its instructions are done, and how many of its stores are in memory.
+#[derive(Drop)]
+struct Column<'a> {
+    thread: &'a Thread,
+    width: usize,
     done: usize,
     out: usize,
+}
+
+// The place that an instruction stores to, if it is a store.
+fn stored(i: &Instruction) -> Option<Place> {
+    match *i {
+        Instruction::Store(place, _) => Some(place),
+        _ => None,
+    }
 }
 
 // A store on its way, as it stands in a cell.
@@ -23,97 +33,84 @@ fn out_text(heap: Global, source: &Source, place: Place) -> Result<String, Alloc
 // The width of a thread's column.
 fn width(heap: Global, source: &Source, thread: &Thread) -> Result<usize, AllocError> {
     let mut most = thread.name.len();
-    for i in thread.code.as_slice() {
+    for i in thread.code.iter() {
         let text = printing::cell_text(heap, source.places.as_slice(), *i)?;
         most = most.max(text.len());
-        if let Instruction::Store(place, _) = *i {
+        if let Some(place) = stored(i) {
             most = most.max(out_text(heap, source, place)?.len());
         }
     }
     Ok(most)
 }
 
-// What a thread does next.
-fn next_text(
-    heap: Global,
-    source: &Source,
-    thread: &Thread,
-    done: usize,
-) -> Result<String, AllocError> {
-    match thread.code.as_slice().get(done) {
-        Some(i) => printing::cell_text(heap, source.places.as_slice(), *i),
-        None => Ok(String::new(heap)),
-    }
-}
-
-// Which of a thread's stores goes to memory where so many went before.
-fn gone_text(
-    heap: Global,
-    source: &Source,
-    thread: &Thread,
-    out: usize,
-) -> Result<String, AllocError> {
-    let mut before = 0usize;
-    for i in thread.code.as_slice() {
-        if let Instruction::Store(place, _) = *i {
-            if before == out {
-                return out_text(heap, source, place);
-            }
-            before = before.saturating_add(1);
-        }
-    }
-    Ok(String::new(heap))
-}
-
-// Adds the places that a thread's stores wait for, oldest first, behind its name.
-fn push_waiting(
-    heap: Global,
-    line: &mut String,
-    source: &Source,
-    thread: &Thread,
-    progress: Progress,
-) -> Result<(), AllocError> {
-    let mut stores = 0usize;
-    for i in thread.code.as_slice().iter().take(progress.done) {
-        if let Instruction::Store(place, _) = *i {
-            if stores == progress.out {
-                line.push_str(" ")?;
-                line.push_str(thread.name.as_str())?;
-            }
-            if stores >= progress.out {
-                let name = printing::place(heap, source.places.as_slice(), place)?;
-                line.push_str(" [")?;
-                line.push_str(name.as_str())?;
-                line.push_str("]")?;
-            }
-            stores = stores.saturating_add(1);
-        }
-    }
-    Ok(())
-}
-
-// Adds a cell of a column, with its end.
+// Adds a cell, with a blank before it and the column's end behind it.
 fn push_cell(line: &mut String, k: usize, cell: &str, width: usize) -> Result<(), AllocError> {
-    line.push_str(if k == 0 { "" } else { " " })?;
-    line.push_str(cell)?;
-    for _ in 0..width.saturating_sub(cell.len()) {
-        line.push_str(" ")?;
-    }
-    line.push_str(" |")?;
-    Ok(())
+    let blank = if k == 0 { "" } else { " " };
+    write!(line, "{blank}{cell:<width$} |")
 }
 
-fn heading(heap: Global, source: &Source) -> Result<String, AllocError> {
+impl<'a> Column<'a> {
+    fn new(heap: Global, source: &Source, thread: &'a Thread) -> Result<Column<'a>, AllocError> {
+        Ok(Column {
+            thread,
+            width: width(heap, source, thread)?,
+            done: 0,
+            out: 0,
+        })
+    }
+
+    // What the thread does next.
+    fn next_text(&self, heap: Global, source: &Source) -> Result<String, AllocError> {
+        match self.thread.code.get(self.done) {
+            Some(i) => printing::cell_text(heap, source.places.as_slice(), *i),
+            None => Ok(String::new(heap)),
+        }
+    }
+
+    // The oldest of the thread's stores that are not in memory, going there.
+    fn gone_text(&self, heap: Global, source: &Source) -> Result<String, AllocError> {
+        match self.thread.code.iter().filter_map(stored).nth(self.out) {
+            Some(place) => out_text(heap, source, place),
+            None => Ok(String::new(heap)),
+        }
+    }
+
+    // Makes a move of the thread, and says what it is.
+    fn make(&mut self, heap: Global, source: &Source, stores: bool) -> Result<String, AllocError> {
+        if stores {
+            let cell = self.gone_text(heap, source)?;
+            self.out = self.out.saturating_add(1);
+            return Ok(cell);
+        }
+        let cell = self.next_text(heap, source)?;
+        self.done = self.done.saturating_add(1);
+        Ok(cell)
+    }
+
+    // Adds the places that the thread's stores wait for, oldest first, behind its name.
+    fn push_waiting(
+        &self,
+        heap: Global,
+        source: &Source,
+        line: &mut String,
+    ) -> Result<(), AllocError> {
+        let done = self.thread.code.iter().take(self.done);
+        for (k, place) in done.filter_map(stored).skip(self.out).enumerate() {
+            if k == 0 {
+                line.push_str(" ")?;
+                line.push_str(self.thread.name.as_str())?;
+            }
+            let name = printing::place(heap, source.places.as_slice(), place)?;
+            write!(line, " [{name}]")?;
+        }
+        Ok(())
+    }
+}
+
+fn heading(heap: Global, columns: &[Column<'_>]) -> Result<String, AllocError> {
     let mut line = String::new(heap);
-    let mut k = 0usize;
-    for thread in source.threads.as_slice() {
-        push_cell(
-            &mut line,
-            k,
-            thread.name.as_str(),
-            width(heap, source, thread)?,
-        )?;
-        k = k.saturating_add(1);
+    for (k, column) in columns.iter().enumerate() {
+        push_cell(&mut line, k, column.thread.name.as_str(), column.width)?;
     }
     line.push_str(" waiting")?;
     Ok(line)
@@ -123,28 +120,20 @@ fn heading(heap: Global, source: &Source) -> Result<String, AllocError> {
 fn line(
     heap: Global,
     source: &Source,
-    progress: &mut [Progress],
+    columns: &mut [Column<'_>],
     mover: usize,
     stores: bool,
 ) -> Result<String, AllocError> {
     let mut line = String::new(heap);
     let mut waiting = String::new(heap);
-    let mut k = 0usize;
-    for thread in source.threads.as_slice() {
-        let mut cell = String::new(heap);
-        if let Some(at) = progress.get_mut(k) {
-            if k == mover && stores {
-                cell = gone_text(heap, source, thread, at.out)?;
-                at.out = at.out.saturating_add(1);
-            }
-            if k == mover && !stores {
-                cell = next_text(heap, source, thread, at.done)?;
-                at.done = at.done.saturating_add(1);
-            }
-            push_waiting(heap, &mut waiting, source, thread, *at)?;
-        }
-        push_cell(&mut line, k, cell.as_str(), width(heap, source, thread)?)?;
-        k = k.saturating_add(1);
+    for (k, column) in columns.iter_mut().enumerate() {
+        let cell = if k == mover {
+            column.make(heap, source, stores)?
+        } else {
+            String::new(heap)
+        };
+        column.push_waiting(heap, source, &mut waiting)?;
+        push_cell(&mut line, k, cell.as_str(), column.width)?;
     }
     line.push_str(waiting.as_str())?;
     Ok(line)
@@ -153,11 +142,14 @@ fn line(
 // Prints a run, told as a thread's number for its next instruction and 4 more for its oldest store going to memory.
 pub fn print(rt: &HostRuntime, source: &Source, moves: &[u32]) -> Result<(), Trouble> {
     let heap = rt.alloc();
-    let mut progress = vec![in heap; Progress { done: 0, out: 0 }; 4]?;
-    rt.println(heading(heap, source)?)?;
+    let mut columns = Vec::new(heap);
+    for thread in source.threads.iter() {
+        columns.push(Column::new(heap, source, thread)?)?;
+    }
+    rt.println(heading(heap, columns.as_slice())?)?;
     for m in moves {
         let mover = (*m % 4) as usize;
-        rt.println(line(heap, source, progress.as_mut_slice(), mover, *m >= 4)?)?;
+        rt.println(line(heap, source, columns.as_mut_slice(), mover, *m >= 4)?)?;
     }
     Ok(())
 }

@@ -1,22 +1,22 @@
 // The verdict on a program, and what shows it.
-use crate::answers::Lent;
-use crate::{answers, moves};
-use cli::troubles::Trouble;
-use cli::{fenced, input};
+use crate::answers::lent;
+use crate::moves;
+use cli::fenced;
+use cli::input::Input;
+use cli::troubles::{Trouble, Why};
 use fences::looking::Looked;
-use std::alloc::Global;
 use text::source::Source;
 use text::{printing, words};
 
 // Prints where each fence is put, by the thread's name and the number of the instruction behind it.
 fn print_fences(rt: &HostRuntime, source: &Source, fences: &[u32]) -> Result<(), Trouble> {
     for fence in fences.chunks_exact(2) {
-        if let [thread, instruction] = fence {
-            if let Some(thread) = source.threads.as_slice().get(*thread as usize) {
-                let name = thread.name.as_str();
-                let line = instruction.saturating_add(1);
-                println!(rt; "a fence before instruction {line} of {name}")?;
-            }
+        if let [thread, instruction] = *fence
+            && let Some(thread) = source.threads.get(thread as usize)
+        {
+            let name = thread.name.as_str();
+            let line = instruction.saturating_add(1);
+            println!(rt; "a fence before instruction {line} of {name}")?;
         }
     }
     Ok(())
@@ -52,34 +52,27 @@ fn print_not_plain(
     Ok(())
 }
 
-// Why there is no verdict.
-fn unanswered(heap: Global, file: &Option<String>, why: &'static str) -> Trouble {
-    match input::name(heap, file) {
-        Ok(file) => Trouble::Unanswered { file, why },
-        Err(_) => Trouble::Memory,
-    }
-}
-
 // Prints whether a program is plain; if it is not, a run that shows it and the fewest fences with which it is.
-pub fn answer(rt: &HostRuntime, file: &Option<String>, source: &Source) -> Result<(), Trouble> {
+pub fn answer(rt: &HostRuntime, input: Input) -> Result<(), Trouble> {
     let heap = rt.alloc();
-    let words = words::to_words(heap, source)?;
-    let mut lent = Lent::new(heap)?;
-    match lent.look(words.as_slice()) {
+    let Input { name, source } = input;
+    let words = words::to_words(heap, &source)?;
+    let mut lent = lent(heap)?;
+    let why = match lent.look(words.as_slice()) {
         Looked::Plain => {
             rt.println("plain: all that comes out comes out at once")?;
-            Ok(())
+            return Ok(());
         }
         Looked::Fences(count, fences) => {
-            let out = lent.out.as_slice();
             print_verdict(rt, fences)?;
-            let run = answers::part(out, 0, count);
-            let fences = answers::part(out, count, fences.saturating_mul(2));
-            print_not_plain(rt, source, run, fences)
+            let run = lent.told(0, count);
+            let fences = lent.told(count, fences.saturating_mul(2));
+            return print_not_plain(rt, &source, run, fences);
         }
-        Looked::Crowded => Err(unanswered(heap, file, "crowded: more states than 4 MiB hold")),
-        Looked::OutFull => Err(unanswered(heap, file, "out full: too few words for the answer")),
-        Looked::NoProgram => Err(unanswered(heap, file, "no program")),
-        Looked::Few => Err(unanswered(heap, file, "few: too little memory is lent")),
-    }
+        Looked::Crowded => Why::Crowded,
+        Looked::OutFull => Why::RunFull,
+        Looked::NoProgram => Why::NoProgram,
+        Looked::Few => Why::Few,
+    };
+    Err(Trouble::Unanswered { file: name, why })
 }

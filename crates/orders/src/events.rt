@@ -1,13 +1,13 @@
 // Events, the reads and writes of a program, and which of two must come first in a memory order.
+use crate::threads::Spot;
 use program::instructions::{Instruction, Place, Register};
 use std::alloc::{AllocError, Global};
 
-// The instruction `index` of thread `thread`, which reads a place into a register or writes a register to a place.
-// `fences` is how many fences stand before it in its thread.
+// The instruction at a spot, which reads a place into a register or writes a register to a place. No other event stands
+// at its spot. `fences` is how many fences stand before it in its thread.
 #[derive(Clone, Copy)]
 pub struct Event {
-    pub thread: usize,
-    pub index: usize,
+    pub spot: Spot,
     pub place: Place,
     pub register: Register,
     pub write: bool,
@@ -23,75 +23,48 @@ pub enum Rule {
 
 // How many fences stand before the instruction `end`.
 fn fences_before(code: &[Instruction], end: usize) -> usize {
-    let mut fences = 0;
-    for instruction in code.iter().take(end) {
-        if let Instruction::Fence = instruction {
-            fences += 1;
-        }
-    }
-    fences
+    code.iter()
+        .take(end)
+        .filter(|i| matches!(**i, Instruction::Fence))
+        .count()
 }
 
-fn push_events(
-    events: &mut Vec<Event>,
-    code: &[Instruction],
-    thread: usize,
-) -> Result<(), AllocError> {
-    for (index, instruction) in code.iter().enumerate() {
-        let fences = fences_before(code, index);
-        match *instruction {
-            Instruction::Load(register, place) => {
-                events.push(Event {
-                    thread,
-                    index,
-                    place,
-                    register,
-                    write: false,
-                    fences,
-                })?;
-            }
-            Instruction::Store(place, register) => {
-                events.push(Event {
-                    thread,
-                    index,
-                    place,
-                    register,
-                    write: true,
-                    fences,
-                })?;
-            }
-            Instruction::Set(_, _) | Instruction::Add(_, _, _) | Instruction::Fence => {}
-        }
-    }
-    Ok(())
+// The event of an instruction of this code, if it reads or writes a place.
+fn event_of(code: &[Instruction], spot: Spot, instruction: Instruction) -> Option<Event> {
+    let (write, place, register) = match instruction {
+        Instruction::Load(register, place) => (false, place, register),
+        Instruction::Store(place, register) => (true, place, register),
+        Instruction::Set(_, _) | Instruction::Add(_, _, _) | Instruction::Fence => return None,
+    };
+    Some(Event {
+        spot,
+        place,
+        register,
+        write,
+        fences: fences_before(code, spot.index),
+    })
 }
 
 // All events, thread by thread and in program order.
 pub fn events_of(heap: Global, threads: &[Vec<Instruction>]) -> Result<Vec<Event>, AllocError> {
     let mut events = Vec::new(heap);
     for (thread, code) in threads.iter().enumerate() {
-        push_events(&mut events, code.as_slice(), thread)?;
+        for (index, instruction) in code.iter().enumerate() {
+            if let Some(e) = event_of(code.as_slice(), Spot { thread, index }, *instruction) {
+                events.push(e)?;
+            }
+        }
     }
     Ok(events)
 }
 
-// They are one event.
-pub fn same(a: &Event, b: &Event) -> bool {
-    a.thread == b.thread && a.index == b.index
-}
-
 pub fn stands_in(order: &[Event], e: &Event) -> bool {
-    for a in order {
-        if same(a, e) {
-            return true;
-        }
-    }
-    false
+    order.iter().any(|a| a.spot == e.spot)
 }
 
 // The first stands before the second in their thread.
 pub fn older(a: &Event, b: &Event) -> bool {
-    a.thread == b.thread && a.index < b.index
+    a.spot.thread == b.spot.thread && a.spot.index < b.spot.index
 }
 
 // Every order has the first before the second. Program order is kept, but that under total store order a read may

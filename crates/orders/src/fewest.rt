@@ -25,43 +25,27 @@ struct Task<'a> {
     at_once: Outcomes,
 }
 
-fn has_store(code: &[Instruction], end: usize) -> bool {
-    for instruction in code.iter().take(end) {
-        if let Instruction::Store(_, _) = instruction {
-            return true;
-        }
-    }
-    false
+// A store stands before the spot and a load behind it. A fence elsewhere keeps no load from passing a store, so a list
+// with such a fence never has the fewest: without it, it does the same.
+fn may_help(code: &[Instruction], index: usize) -> bool {
+    let store = code
+        .iter()
+        .take(index)
+        .any(|i| matches!(*i, Instruction::Store(_, _)));
+    let load = code
+        .iter()
+        .skip(index)
+        .any(|i| matches!(*i, Instruction::Load(_, _)));
+    store && load
 }
 
-fn has_load(code: &[Instruction], begin: usize) -> bool {
-    for instruction in code.iter().skip(begin) {
-        if let Instruction::Load(_, _) = instruction {
-            return true;
-        }
-    }
-    false
-}
-
-// The spots of a thread with a store before them and a load behind them. A fence elsewhere keeps no load from passing a
-// store, so a list with such a fence never has the fewest: without it, it does the same.
-fn push_spots(
-    spots: &mut Vec<Spot>,
-    code: &[Instruction],
-    thread: usize,
-) -> Result<(), AllocError> {
-    for index in 0..code.len() {
-        if has_store(code, index) && has_load(code, index) {
-            spots.push(Spot { thread, index })?;
-        }
-    }
-    Ok(())
-}
-
+// The spots where a fence may help.
 fn spots_of(heap: Global, threads: &[Vec<Instruction>]) -> Result<Vec<Spot>, AllocError> {
     let mut spots = Vec::new(heap);
     for (thread, code) in threads.iter().enumerate() {
-        push_spots(&mut spots, code.as_slice(), thread)?;
+        for index in (0..code.len()).filter(|index| may_help(code.as_slice(), *index)) {
+            spots.push(Spot { thread, index })?;
+        }
     }
     Ok(spots)
 }
@@ -83,25 +67,26 @@ fn works(task: &Task, tried: &mut Fewest) -> Result<bool, AllocError>
     Ok(found.outcomes.is_empty())
 }
 
-// Tries all lists that begin with this one and have `more` spots behind it, all from the `from`-th on; stops at the first
-// that works.
+// Tries all lists that begin with this one and have `more` of these spots behind it, those with the first spot first;
+// stops at the first list that works.
 fn try_longer(
     task: &Task,
-    from: usize,
+    spots: &[Spot],
     more: usize,
     tried: &mut Fewest,
 ) -> Result<bool, AllocError> {
     if more == 0 {
         return works(task, tried);
     }
-    for i in from..task.spots.len() {
-        tried.spots.push(task.spots[i])?;
-        if try_longer(task, i + 1, more - 1, tried)? {
-            return Ok(true);
-        }
-        tried.spots.pop();
+    let Some((first, rest)) = spots.split_first() else {
+        return Ok(false);
+    };
+    tried.spots.push(*first)?;
+    if try_longer(task, rest, more - 1, tried)? {
+        return Ok(true);
     }
-    Ok(false)
+    tried.spots.pop();
+    try_longer(task, rest, more, tried)
 }
 
 // The fewest fences, and of equally many the first list. None if no list works; but fences at all spots do.
@@ -123,7 +108,7 @@ pub fn fewest_fences(
         orders: 0,
     };
     for more in 0..=task.spots.len() {
-        if try_longer(&task, 0, more, &mut tried)? {
+        if try_longer(&task, task.spots.as_slice(), more, &mut tried)? {
             return Ok(Some(tried));
         }
     }

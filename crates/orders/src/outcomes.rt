@@ -30,26 +30,24 @@ pub struct Found {
     pub orders: u64,
 }
 
-// Adds an outcome, and says whether to go on.
-fn note(task: &Task, found: &mut Found, outcome: Vec<u32>) -> Result<bool, AllocError> {
-    found.orders = found.orders.saturating_add(1);
-    if !task.known.contains(&outcome) {
-        found.outcomes.insert(outcome)?;
+impl Found {
+    // Adds an outcome, and says whether to go on.
+    fn note(&mut self, task: &Task, outcome: Vec<u32>) -> Result<bool, AllocError> {
+        self.orders = self.orders.saturating_add(1);
+        if !task.known.contains(&outcome) {
+            self.outcomes.insert(outcome)?;
+        }
+        Ok(self.outcomes.len() < task.most)
     }
-    Ok(found.outcomes.len() < task.most)
 }
 
 // The event may come next: it has not come, and all that must precede it have.
 fn may_come(task: &Task, order: &[Event], e: &Event) -> bool {
-    if stands_in(order, e) {
-        return false;
-    }
-    for a in task.events.iter() {
-        if must_precede(task.rule, a, e) && !stands_in(order, a) {
-            return false;
-        }
-    }
-    true
+    !stands_in(order, e)
+        && task
+            .events
+            .iter()
+            .all(|a| !must_precede(task.rule, a, e) || stands_in(order, a))
 }
 
 // Goes through all orders that begin with this one, and says whether to go on. Of the events that may come next the last
@@ -59,7 +57,7 @@ fn extend(task: &Task, order: &mut Vec<Event>, found: &mut Found) -> Result<bool
 {
     if order.len() >= task.events.len() {
         let outcome = outcome_of(task.heap, task.threads, order.as_slice())?;
-        return note(task, found, outcome);
+        return found.note(task, outcome);
     }
     for e in task.events.iter().rev() {
         if may_come(task, order.as_slice(), e) {

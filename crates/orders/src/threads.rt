@@ -8,7 +8,7 @@ use std::alloc::{AllocError, Global};
 // The threads' instructions, in program order.
 pub type Threads = Vec<Vec<Instruction>>;
 
-// A spot for a fence: before the instruction `index` of thread `thread`.
+// Where the instruction `index` of thread `thread` stands. A fence at a spot is put before it.
 #[derive(Clone, Copy, PartialEq, Eq, Debug)]
 pub struct Spot {
     pub thread: usize,
@@ -18,31 +18,17 @@ pub struct Spot {
 fn instructions_of(heap: Global, t: &Thread) -> Result<Vec<Instruction>, AllocError>
     ensures { IfOk result (λ v. vec_len v ≡ t.now.len) }
 {
-    let mut code = Vec::new(heap);
-    for k in 0..t.len {
-        code.push(t.code[k])?;
-    }
-    Ok(code)
+    t.code[..t.len].to_vec(heap)
 }
 
 pub fn threads_of(heap: Global, p: &Program) -> Result<Threads, AllocError>
     ensures { IfOk result (λ v. vec_len v ≡ p.now.count) }
 {
     let mut threads = Vec::new(heap);
-    for n in 0..p.count {
-        threads.push(instructions_of(heap, &p.threads[n])?)?;
+    for t in &p.threads[..p.count] {
+        threads.push(instructions_of(heap, t)?)?;
     }
     Ok(threads)
-}
-
-// Adds a fence for each time that the spot stands in the list.
-fn push_fences(code: &mut Vec<Instruction>, spots: &[Spot], at: Spot) -> Result<(), AllocError> {
-    for s in spots {
-        if *s == at {
-            code.push(Instruction::Fence)?;
-        }
-    }
-    Ok(())
 }
 
 fn with_fences_in(
@@ -53,7 +39,10 @@ fn with_fences_in(
 ) -> Result<Vec<Instruction>, AllocError> {
     let mut fenced = Vec::new(heap);
     for (index, instruction) in code.iter().enumerate() {
-        push_fences(&mut fenced, spots, Spot { thread, index })?;
+        // a fence for each time that the spot stands in the list
+        for _ in spots.iter().filter(|s| **s == Spot { thread, index }) {
+            fenced.push(Instruction::Fence)?;
+        }
         fenced.push(*instruction)?;
     }
     Ok(fenced)

@@ -1,6 +1,7 @@
 // Programs as words, one to a line of standard input, and their outcomes as numbers.
-use crate::listing::Lent;
+use crate::listing::lent;
 use crate::rows;
+use cli::lending::Lent;
 use cli::lines::Lines;
 use cli::numbers;
 use cli::troubles::Trouble;
@@ -14,7 +15,7 @@ fn print_outcomes(
     count: usize,
 ) -> Result<(), Trouble> {
     let heap = rt.alloc();
-    for row in rows::sorted(heap, lent.out.as_slice(), threads, count)?.as_slice() {
+    for row in rows::sorted(heap, lent.out.as_slice(), threads, count)?.iter() {
         let how = if row.at_once { "both" } else { "waiting" };
         let values = numbers::line(heap, row.values)?;
         println!(rt; "{how} {values}")?;
@@ -40,15 +41,9 @@ fn answer_one(rt: &HostRuntime, lent: &mut Lent, words: &[u32]) -> Result<(), Tr
 
 // Answers for each line in turn, up to the end or to the first line that is refused.
 pub fn answer(rt: &HostRuntime) -> Result<(), Trouble> {
-    let heap = rt.alloc();
-    let mut lent = Lent::new(heap)?;
-    let mut lines = Lines::new(rt)?;
-    for _ in 0..u64::MAX {
-        let Some(line) = lines.line(heap)? else {
-            break;
-        };
-        let words = numbers::parse(heap, lines.number, line.as_slice())?;
-        answer_one(rt, &mut lent, words.as_slice())?;
+    let mut lent = lent(rt.alloc())?;
+    for words in Lines::new(rt)? {
+        answer_one(rt, &mut lent, words?.as_slice())?;
     }
     Ok(())
 }

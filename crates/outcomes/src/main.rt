@@ -6,11 +6,9 @@ mod listing;
 mod rows;
 mod table;
 
-use cli::arguments::{Mode, Request};
 use cli::troubles::Trouble;
-use cli::{arguments, input, numbers, troubles};
+use cli::{arguments, running, troubles};
 use std::process::ExitCode;
-use text::words;
 
 const HELP: &str = "usage: outcomes [--help | --to-words] [FILE]
        outcomes --words
@@ -30,27 +28,15 @@ go to memory.
 docs/FORMAT.md says how programs are written.";
 
 fn run(rt: &HostRuntime) -> Result<(), Trouble> {
-    let Request { mode, file } = arguments::asked(rt)?;
-    match mode {
-        Mode::Help => rt.println(HELP)?,
-        Mode::Answer => {
-            let source = input::source(rt, &file)?;
-            table::answer(rt, &file, &source)?;
-        }
-        Mode::ToWords => {
-            let source = input::source(rt, &file)?;
-            let words = words::to_words(rt.alloc(), &source)?;
-            rt.println(numbers::line(rt.alloc(), words.as_slice())?)?;
-        }
-        Mode::Words => by_words::answer(rt)?,
-    }
-    Ok(())
+    running::run(
+        rt,
+        arguments::asked(rt)?,
+        HELP,
+        table::answer,
+        by_words::answer,
+    )
 }
 
 fn main(rt: HostRuntime) -> ExitCode {
-    // what went wrong is said by then, so that `main` says no more of it
-    match troubles::report(&rt, run(&rt)) {
-        Ok(()) => ExitCode::SUCCESS,
-        Err(_said) => ExitCode::FAILURE,
-    }
+    troubles::status(&rt, run(&rt))
 }

@@ -1,22 +1,21 @@
 // The outcomes of a program as a table, under its own names.
-use crate::listing::Lent;
+use crate::listing::lent;
 use crate::rows;
 use crate::rows::Row;
+use cli::input::Input;
+use cli::shown;
 use cli::shown::Shown;
-use cli::troubles::Trouble;
-use cli::{input, shown};
+use cli::troubles::{Trouble, Why};
 use fences::listing::Listed;
 use std::alloc::{AllocError, Global};
+use std::fmt::Display;
 use text::source::Source;
 use text::words;
 
 // Adds a cell as wide as its title, two blanks before it.
-fn push_cell(line: &mut String, cell: &str, title: &str) -> Result<(), AllocError> {
-    for _ in 0..title.len().saturating_sub(cell.len()).saturating_add(2) {
-        line.push_str(" ")?;
-    }
-    line.push_str(cell)?;
-    Ok(())
+fn push_cell<T: Display + Drop>(line: &mut String, cell: T, title: &str) -> Result<(), AllocError> {
+    let width = title.len();
+    write!(line, "  {cell:>width$}")
 }
 
 // The line of titles.
@@ -33,13 +32,8 @@ fn heading(heap: Global, columns: &[Shown]) -> Result<String, AllocError> {
 fn line(heap: Global, columns: &[Shown], row: &Row<'_>) -> Result<String, AllocError> {
     let mut line = String::new(heap);
     for column in columns {
-        let value = row
-            .values
-            .get(column.at)
-            .copied()
-            .unwrap_or(0)
-            .to_string(heap)?;
-        push_cell(&mut line, value.as_str(), column.title.as_str())?;
+        let value = row.values.get(column.at).copied().unwrap_or(0);
+        push_cell(&mut line, value, column.title.as_str())?;
     }
     line.push_str(if row.at_once { "" } else { "  *" })?;
     Ok(line)
@@ -69,40 +63,31 @@ fn print_table(
     let heap = rt.alloc();
     let columns = shown::of_program(heap, source)?;
     rt.println(heading(heap, columns.as_slice())?)?;
-    let mut waiting = 0usize;
     for row in rows {
-        if !row.at_once {
-            waiting = waiting.saturating_add(1);
-        }
         rt.println(line(heap, columns.as_slice(), row)?)?;
     }
+    let waiting = rows.iter().filter(|row| !row.at_once).count();
     rt.println("")?;
     rt.println(summary(heap, rows.len(), waiting, states)?)?;
     Ok(())
 }
 
-// Why there is no table.
-fn unanswered(heap: Global, file: &Option<String>, why: &'static str) -> Trouble {
-    match input::name(heap, file) {
-        Ok(file) => Trouble::Unanswered { file, why },
-        Err(_) => Trouble::Memory,
-    }
-}
-
 // Prints all outcomes of a program.
-pub fn answer(rt: &HostRuntime, file: &Option<String>, source: &Source) -> Result<(), Trouble> {
+pub fn answer(rt: &HostRuntime, input: Input) -> Result<(), Trouble> {
     let heap = rt.alloc();
-    let words = words::to_words(heap, source)?;
-    let mut lent = Lent::new(heap)?;
-    match lent.outcomes(words.as_slice()) {
+    let Input { name, source } = input;
+    let words = words::to_words(heap, &source)?;
+    let mut lent = lent(heap)?;
+    let why = match lent.outcomes(words.as_slice()) {
         Listed::Outcomes(count, states) => {
-            let threads = words.as_slice().first().copied().unwrap_or(0);
+            let threads = words.first().copied().unwrap_or(0);
             let rows = rows::sorted(heap, lent.out.as_slice(), threads, count)?;
-            print_table(rt, source, rows.as_slice(), states)
+            return print_table(rt, &source, rows.as_slice(), states);
         }
-        Listed::Crowded => Err(unanswered(heap, file, "crowded: more states than 4 MiB hold")),
-        Listed::OutFull => Err(unanswered(heap, file, "out full: more outcomes than 4 MiB hold")),
-        Listed::NoProgram => Err(unanswered(heap, file, "no program")),
-        Listed::Few => Err(unanswered(heap, file, "few: too little memory is lent")),
-    }
+        Listed::Crowded => Why::Crowded,
+        Listed::OutFull => Why::OutcomesFull,
+        Listed::NoProgram => Why::NoProgram,
+        Listed::Few => Why::Few,
+    };
+    Err(Trouble::Unanswered { file: name, why })
 }

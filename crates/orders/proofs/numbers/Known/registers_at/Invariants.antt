@@ -1,6 +1,6 @@
 -- A thread keeps its four registers.
 use Rattle.std.proofs.Common.{◌≡◌, length}
-use Rattle.orders.proofs.numbers.registers_at.Given as goal
+use Rattle.orders.proofs.numbers.Known.registers_at.Given as goal
 
 abbrev pub invariant-loop-index : goal.invariant-loop-index
 invariant-loop-index l =

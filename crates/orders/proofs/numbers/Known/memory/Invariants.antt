@@ -1,6 +1,6 @@
 -- Memory keeps its eight places.
 use Rattle.std.proofs.Common.{◌≡◌, length}
-use Rattle.orders.proofs.numbers.memory_after.Given as goal
+use Rattle.orders.proofs.numbers.Known.memory.Given as goal
 
 abbrev pub invariant-loop-e : goal.invariant-loop-e
 invariant-loop-e l =

@@ -1,6 +1,0 @@
--- Never more than eight instructions.
-use Rattle.std.proofs.Common.{◌≤◌, vec_len}
-use Rattle.generate.proofs.programs.free_thread.Given as goal
-
-abbrev pub invariant-loop : goal.invariant-loop
-invariant-loop l = vec_len l.code ≤ 8
