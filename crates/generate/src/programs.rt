@@ -18,7 +18,7 @@ ghost use Rattle.std.specs.Prelude.{◌<◌, ◌≤◌, length, IfOk, vec_len};
 
 use crate::random::Random;
 use program::instructions::{Instruction, Place, Register};
-use program::words::instruction_to_words;
+use program::words::push_code;
 use std::alloc::{AllocError, Global};
 
 // At most so many threads, one to four, and so many reads and writes in all.
@@ -317,16 +317,6 @@ fn count_of(random: &mut Random, limits: Limits) -> u32
     2 + random.below(most - 1)
 }
 
-fn push_thread(words: &mut Vec<u32>, code: &[Instruction]) -> Result<(), AllocError>
-    requires { length code.now ≤ 8 }
-{
-    words.push(code.len() as u32)?;
-    for instruction in code {
-        words.extend_from_slice(&instruction_to_words(*instruction))?;
-    }
-    Ok(())
-}
-
 fn new_plan(random: &mut Random, limits: Limits, count: u32) -> Plan
     requires { count ≤ 4 }
 {
@@ -357,7 +347,8 @@ pub fn program_words(
     words.push(count)?;
     for n in 0..count {
         let code = thread(heap, random, &mut plan, (n + first) % count)?;
-        push_thread(&mut words, code.as_slice())?;
+        words.push(code.len() as u32)?;
+        push_code(&mut words, code.as_slice())?;
     }
     Ok(words)
 }

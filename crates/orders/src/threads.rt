@@ -1,5 +1,6 @@
 // Programs as lists of instructions, of any length, so that fences can be put in. What they do is not said here.
 ghost use Rattle.std.specs.Prelude.{◌≡◌, length, IfOk, vec_len};
+ghost use Rattle.program.specs.Meaning.{thread, program};
 
 use program::instructions::Instruction;
 use program::threads::{Program, Thread};
@@ -16,16 +17,16 @@ pub struct Spot {
 }
 
 fn instructions_of(heap: Global, t: &Thread) -> Result<Vec<Instruction>, AllocError>
-    ensures { IfOk result (λ v. vec_len v ≡ t.now.len) }
+    ensures { IfOk result (λ v. vec_len v ≡ length (thread t.now)) }
 {
-    t.code[..t.len].to_vec(heap)
+    t.instructions().to_vec(heap)
 }
 
 pub fn threads_of(heap: Global, p: &Program) -> Result<Threads, AllocError>
-    ensures { IfOk result (λ v. vec_len v ≡ p.now.count) }
+    ensures { IfOk result (λ v. vec_len v ≡ length (program p.now)) }
 {
     let mut threads = Vec::new(heap);
-    for t in &p.threads[..p.count] {
+    for t in p.threads() {
         threads.push(instructions_of(heap, t)?)?;
     }
     Ok(threads)

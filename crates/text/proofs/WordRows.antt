@@ -3,7 +3,7 @@ use Rattle.std.proofs.Common.{◌≡◌, ℕ, ◌+◌, ◌<◌, List, [], ◌∷
 use mathlib.Core.List.{map-append}
 use Rattle.std.proofs.lemmas.List.{map_more}
 use Rattle.model.specs.Code.{row_t, row_ts}
-use Rattle.program.proofs.ReadProgram.{row_ts_push}
+use Rattle.program.proofs.Rows.{row_ts_push}
 use Rattle.program.specs.declared.instructions.Instruction.{Instruction}
 use Rattle.program.specs.Instructions.{instruction}
 use Rattle.text.specs.declared.source.Thread.{Thread}

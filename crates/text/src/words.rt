@@ -7,7 +7,7 @@ ghost use Rattle.text.specs.Meaning.{listing};
 
 use crate::source::Source;
 use program::instructions::Instruction;
-use program::words::instruction_to_words;
+use program::words::push_code;
 use std::alloc::{AllocError, Global};
 
 // How many, as a word. More than a word can say would not fit into memory either.
@@ -26,9 +26,7 @@ fn push_thread(words: &mut Vec<u32>, code: &[Instruction]) -> Result<(), AllocEr
     ensures { OnOk result (words.new.items ≡ words.old.items ++ (length (map instruction code.now) ∷ row_t (map instruction code.now))) }
 {
     words.push(count(code.len())?)?;
-    for k in 0..code.len() {
-        words.extend_from_slice(&instruction_to_words(code[k]))?;
-    }
+    push_code(words, code)?;
     Ok(())
 }
 
@@ -38,8 +36,8 @@ pub fn to_words(heap: Global, source: &Source) -> Result<Vec<u32>, AllocError>
 {
     let mut words = Vec::new(heap);
     words.push(count(source.threads.len())?)?;
-    for n in 0..source.threads.len() {
-        push_thread(&mut words, source.threads[n].code.as_slice())?;
+    for thread in &source.threads {
+        push_thread(&mut words, thread.code.as_slice())?;
     }
     Ok(words)
 }
