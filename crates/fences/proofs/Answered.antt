@@ -1,5 +1,5 @@
 -- The answer of 'look', from what is said of the program to what is said of the words.
-use Rattle.std.proofs.Common.{◌≡◌, ℕ, zero, suc, ◌+◌, ◌-◌, ◌*◌, ◌<◌, ◌≤◌, List, [], ◌∷◌, ◌++◌, map, length, get_or, take, drop, sym, refl, ap, ◌∙◌, subst, arith}
+use Rattle.std.proofs.Common.{◌≡◌, ℕ, zero, suc, ◌+◌, ◌-◌, ◌*◌, ◌<◌, ◌≤◌, List, [], ◌∷◌, ◌++◌, map, length, get_or, take, drop, sym, refl, ap, ◌∙◌, subst, arith, Ok, Err}
 use Rattle.std.proofs.lemmas.List.{length-take-le, length-map}
 use Rattle.report.proofs.Written.{drop_further}
 use Rattle.explore.specs.Found.{move_of}
@@ -7,37 +7,41 @@ use Rattle.fences.specs.Told.{text_ms}
 use Rattle.fences.specs.Looks.{AllBelow}
 use Rattle.model.specs.Code.{Prog, Reads}
 use Rattle.model.proofs.Theorems.{theorems}
-use Rattle.fences.specs.declared.looking.Looked.{Looked}
-use Rattle.fences.specs.declared.looking.Looked.TheVariants as looked
-use Rattle.fences.specs.Answers.{LookedFound, LookedOf, LookedSays, LookedPost}
+use Rattle.fences.specs.declared.looking.Verdict.TheVariants as verdict
+use Rattle.fences.specs.declared.refusals.Refusal.{Refusal}
+use Rattle.fences.specs.declared.refusals.Refusal.TheVariants as refusal
+use Rattle.fences.specs.Finding.{Admitted, FoundIn}
+use Rattle.fences.specs.Answers.{Looked, LookedFound, LookedSays, LookedPost}
 
-pub looked_of : (p : Prog) (w : ℕ) (o o' : List ℕ) (r : Looked) → LookedFound p o o' r → LookedOf p w o o' r
-looked_of p w o o' looked.Plain h = h
-looked_of p w o o' (looked.Fences m k) h = h
-looked_of p w o o' looked.OutFull h = h
-looked_of p w o o' looked.Crowded h = absurd h
-looked_of p w o o' looked.NoProgram h = absurd h
-looked_of p w o o' looked.Few h = absurd h
+looked_says : (s : List ℕ) (most : ℕ) (o o' : List ℕ) (p : Prog) (r : Looked) → Reads s p → LookedFound p o o' r → LookedSays s most o o' r
+looked_says s most o o' p (Ok verdict.Plain) h z = (p, h, z.0, z.1)
+looked_says s most o o' p (Ok (verdict.Fences m k)) h z = (p, z.0, z.1, h, z.2, z.3, z.4, z.5, z.6, z.7)
+looked_says s most o o' p (Err refusal.OutFull) h z = (p, z.0, h, z.1, z.2, z.3)
+looked_says s most o o' p (Err refusal.Crowded) h z = absurd z
+looked_says s most o o' p (Err refusal.NoProgram) h z = absurd z
+looked_says s most o o' p (Err refusal.Few) h z = absurd z
 
-looked_says : (s : List ℕ) (most w : ℕ) (o o' : List ℕ) (p : Prog) (r : Looked) → Reads s p → most < 4294967296 → 65536 + 128 * (most + 1) ≤ w → LookedOf p w o o' r → LookedSays s most o o' r
-looked_says s most w o o' p looked.Plain h m l z = (p, h, z.0, z.1)
-looked_says s most w o o' p (looked.Fences m k) h b l z = (p, z.0, z.1, h, z.2, z.3, z.4, z.5, z.6, z.7)
-looked_says s most w o o' p looked.OutFull h m l z = (p, z.0, h, z.1, z.2, z.3)
-looked_says s most w o o' p looked.Crowded h m l z = let (q, a, d, n) = z.0 most m l in (p, q, h, a, d, n, z.1)
-looked_says s most w o o' p looked.NoProgram h m l z = absurd z
-looked_says s most w o o' p looked.Few h m l z = absurd z
+pub looked_post : (s : List ℕ) (most w : ℕ) (o o' : List ℕ) (p : Prog) (r : Looked) → Reads s p → 65536 + 128 * (most + 1) ≤ w → LookedFound p o o' r → LookedPost s most w o o' r
+looked_post s most w o o' p r h l z =
+    record {
+      says = looked_says s most o o' p r h z;
+      theorems = theorems;
+      few = ((λ k. absurd (omega arith)), (λ e. absurd (subst (λ (x : Looked). LookedFound p o o' x) e z)));
+    }
 
-not_few : (p : Prog) (w : ℕ) (o o' : List ℕ) (r : Looked) → LookedOf p w o o' r → r ≡ looked.Few → ⊥
-not_few p w o o' r h e = subst (λ (z : Looked). LookedOf p w o o' z) e h
+-- where the words are refused, or the states are too many
+pub refused_post : (s : List ℕ) (most w : ℕ) (o : List ℕ) (e : Refusal) → Admitted s most w (Err e) → LookedPost s most w o o (Err e)
+refused_post s most w o refusal.NoProgram h = record { says = (h.0, refl); theorems = theorems; few = ((λ k. let l = h.1 in absurd (omega arith)), (λ e. let z : ◌≡◌ {A = ℕ} 0 1 = cc in absurd (omega arith))) }
+refused_post s most w o refusal.Few h = record { says = refl; theorems = theorems; few = ((λ k. refl), (λ e. h)) }
+refused_post s most w o refusal.Crowded h = absurd h
+refused_post s most w o refusal.OutFull h = absurd h
 
-pub looked_post : (s : List ℕ) (most w : ℕ) (o o' : List ℕ) (p : Prog) (r : Looked) → Reads s p → most < 4294967296 → 65536 + 128 * (most + 1) ≤ w → LookedOf p w o o' r → LookedPost s most w o o' r
-looked_post s most w o o' p r h m l z = record { says = looked_says s most w o o' p r h m l z; theorems = theorems; few = ((λ k. absurd (omega arith)), (λ e. absurd (not_few p w o o' r z e))) }
-
-pub no_program_post : (s : List ℕ) (most w : ℕ) (o : List ℕ) → ((p : Prog) → Reads s p → ⊥) → 65536 + 128 * (most + 1) ≤ w → LookedPost s most w o o looked.NoProgram
-no_program_post s most w o n l = record { says = (n, refl); theorems = theorems; few = ((λ k. absurd (omega arith)), (λ e. let z : ◌≡◌ {A = ℕ} 0 1 = cc in absurd (omega arith))) }
-
-pub few_post : (s : List ℕ) (most w : ℕ) (o : List ℕ) → w < 65536 + 128 * (most + 1) → LookedPost s most w o o looked.Few
-few_post s most w o l = record { says = refl; theorems = theorems; few = ((λ k. refl), (λ e. l)) }
+pub crowded_post : (s : List ℕ) (most w : ℕ) (o : List ℕ) (p : Prog) (e : Refusal) → Reads s p → most < 4294967296 → 65536 + 128 * (most + 1) ≤ w → FoundIn p w (Err e) → LookedPost s most w o o (Err e)
+crowded_post s most w o p refusal.Crowded h m l f =
+    record { says = (let (q, a, d, n) = f most m l in (p, q, h, a, d, n, refl)); theorems = theorems; few = ((λ k. absurd (omega arith)), (λ e. let z : ◌≡◌ {A = ℕ} 0 1 = cc in absurd (omega arith))) }
+crowded_post s most w o p refusal.NoProgram h m l f = absurd f
+crowded_post s most w o p refusal.Few h m l f = absurd f
+crowded_post s most w o p refusal.OutFull h m l f = absurd f
 
 -- the moves of a run, as the code cuts them out
 cut : (m : ℕ) (path : List ℕ) → take (m - 0) path ≡ take m path

@@ -1,4 +1,5 @@
 -- Lemmas on the public calls.
+pub mod FindingLaws
 pub mod Sharing
 pub mod AllOutcomes
 pub mod RowLaws

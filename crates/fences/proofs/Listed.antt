@@ -1,5 +1,5 @@
 -- The whole list: what is written is all outcomes, and so many states are all states.
-use Rattle.std.proofs.Common.{◌≡◌, ℕ, ◌+◌, ◌*◌, ◌/◌, ◌<◌, ◌≤◌, List, length, sym, refl, ap, ◌∙◌, subst, inl, inr, mul-le-mul_left, arith}
+use Rattle.std.proofs.Common.{◌≡◌, ℕ, ◌+◌, ◌*◌, ◌/◌, ◌<◌, ◌≤◌, List, length, sym, refl, ap, ◌∙◌, subst, inl, inr, mul-le-mul_left, arith, Ok, Err}
 use Rattle.std.proofs.lemmas.Bool.{cases_lt}
 use Rattle.std.proofs.lemmas.Nat.{div-add-mod', le-div}
 use Rattle.model.specs.Code.{Prog}
@@ -10,9 +10,10 @@ use Rattle.explore.specs.Found.{Explored, Among, Crowded}
 use Rattle.explore.proofs.Finding.{listed, length_listed, different, come_to, listed_among}
 use Rattle.fences.specs.Listing.{text}
 use Rattle.fences.specs.Rows.{rows_from}
-use Rattle.fences.specs.declared.listing.Listed.{Listed}
-use Rattle.fences.specs.declared.listing.Listed.TheVariants as listed_as
-use Rattle.fences.specs.Says.{States, ListedFound, ListedOf, ListedSays, ListedPost}
+use Rattle.fences.specs.declared.refusals.Refusal.{Refusal}
+use Rattle.fences.specs.declared.refusals.Refusal.TheVariants as refusal
+use Rattle.fences.specs.Finding.{Admitted, FoundIn}
+use Rattle.fences.specs.Says.{Listed, States, ListedFound, ListedSays, ListedPost}
 use Rattle.model.specs.Code.{Reads}
 use Rattle.model.proofs.Theorems.{theorems}
 use Rattle.fences.proofs.RowLaws.{length_all}
@@ -55,29 +56,32 @@ rows_too_long p t count q g cost n k len ex e h =
 pub crowded_too : (p : Prog) (limit m : ℕ) → m ≤ limit → Crowded p limit → Crowded p m
 crowded_too p limit m h c = let (q, a, d, l) = c in (q, a, d, omega arith)
 
-pub listed_of : (p : Prog) (w : ℕ) (o o' : List ℕ) (r : Listed) → ListedFound p o o' r → ListedOf p w o o' r
-listed_of p w o o' (listed_as.Outcomes k n) h = h
-listed_of p w o o' listed_as.OutFull h = h
-listed_of p w o o' listed_as.Crowded h = absurd h
-listed_of p w o o' listed_as.NoProgram h = absurd h
-listed_of p w o o' listed_as.Few h = absurd h
-
 -- what is said of the program is said of the words
-listed_says : (s : List ℕ) (most w : ℕ) (o o' : List ℕ) (p : Prog) (r : Listed) → Reads s p → most < 4294967296 → 65536 + 128 * (most + 1) ≤ w → ListedOf p w o o' r → ListedSays s most o o' r
-listed_says s most w o o' p (listed_as.Outcomes k n) h m l (rs, a, b, c, d, e) = (p, rs, h, a, b, c, d, e)
-listed_says s most w o o' p listed_as.OutFull h m l (rs, a, b, c) = (p, rs, h, a, b, c)
-listed_says s most w o o' p listed_as.Crowded h m l (f, e) = (p, h, f most m l, e)
-listed_says s most w o o' p listed_as.NoProgram h m l z = absurd z
-listed_says s most w o o' p listed_as.Few h m l z = absurd z
+listed_says : (s : List ℕ) (most : ℕ) (o o' : List ℕ) (p : Prog) (r : Listed) → Reads s p → ListedFound p o o' r → ListedSays s most o o' r
+listed_says s most o o' p (Ok l) h (rs, a, b, c, d, e) = (p, rs, h, a, b, c, d, e)
+listed_says s most o o' p (Err refusal.OutFull) h (rs, a, b, c) = (p, rs, h, a, b, c)
+listed_says s most o o' p (Err refusal.Crowded) h z = absurd z
+listed_says s most o o' p (Err refusal.NoProgram) h z = absurd z
+listed_says s most o o' p (Err refusal.Few) h z = absurd z
 
-not_few : (p : Prog) (w : ℕ) (o o' : List ℕ) (r : Listed) → ListedOf p w o o' r → r ≡ listed_as.Few → ⊥
-not_few p w o o' r h e = subst (λ (z : Listed). ListedOf p w o o' z) e h
+pub listed_post : (s : List ℕ) (most w : ℕ) (o o' : List ℕ) (p : Prog) (r : Listed) → Reads s p → 65536 + 128 * (most + 1) ≤ w → ListedFound p o o' r → ListedPost s most w o o' r
+listed_post s most w o o' p r h l z =
+    record {
+      says = listed_says s most o o' p r h z;
+      theorems = theorems;
+      few = ((λ k. absurd (omega arith)), (λ e. absurd (subst (λ (x : Listed). ListedFound p o o' x) e z)));
+    }
 
-pub listed_post : (s : List ℕ) (most w : ℕ) (o o' : List ℕ) (p : Prog) (r : Listed) → Reads s p → most < 4294967296 → 65536 + 128 * (most + 1) ≤ w → ListedOf p w o o' r → ListedPost s most w o o' r
-listed_post s most w o o' p r h m l z = record { says = listed_says s most w o o' p r h m l z; theorems = theorems; few = ((λ k. absurd (omega arith)), (λ e. absurd (not_few p w o o' r z e))) }
+-- where the words are refused, or the states are too many
+pub refused_post : (s : List ℕ) (most w : ℕ) (o : List ℕ) (e : Refusal) → Admitted s most w (Err e) → ListedPost s most w o o (Err e)
+refused_post s most w o refusal.NoProgram h = record { says = (h.0, refl); theorems = theorems; few = ((λ k. let l = h.1 in absurd (omega arith)), (λ e. let z : ◌≡◌ {A = ℕ} 0 1 = cc in absurd (omega arith))) }
+refused_post s most w o refusal.Few h = record { says = refl; theorems = theorems; few = ((λ k. refl), (λ e. h)) }
+refused_post s most w o refusal.Crowded h = absurd h
+refused_post s most w o refusal.OutFull h = absurd h
 
-pub no_program_post : (s : List ℕ) (most w : ℕ) (o : List ℕ) → ((p : Prog) → Reads s p → ⊥) → 65536 + 128 * (most + 1) ≤ w → ListedPost s most w o o listed_as.NoProgram
-no_program_post s most w o n l = record { says = (n, refl); theorems = theorems; few = ((λ k. absurd (omega arith)), (λ e. let z : ◌≡◌ {A = ℕ} 0 1 = cc in absurd (omega arith))) }
-
-pub few_post : (s : List ℕ) (most w : ℕ) (o : List ℕ) → w < 65536 + 128 * (most + 1) → ListedPost s most w o o listed_as.Few
-few_post s most w o l = record { says = refl; theorems = theorems; few = ((λ k. refl), (λ e. l)) }
+pub crowded_post : (s : List ℕ) (most w : ℕ) (o : List ℕ) (p : Prog) (e : Refusal) → Reads s p → most < 4294967296 → 65536 + 128 * (most + 1) ≤ w → FoundIn p w (Err e) → ListedPost s most w o o (Err e)
+crowded_post s most w o p refusal.Crowded h m l f =
+    record { says = (p, h, f most m l, refl); theorems = theorems; few = ((λ k. absurd (omega arith)), (λ e. let z : ◌≡◌ {A = ℕ} 0 1 = cc in absurd (omega arith))) }
+crowded_post s most w o p refusal.NoProgram h m l f = absurd f
+crowded_post s most w o p refusal.Few h m l f = absurd f
+crowded_post s most w o p refusal.OutFull h m l f = absurd f

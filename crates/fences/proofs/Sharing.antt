@@ -1,6 +1,8 @@
 -- Sharing lent words out: each state takes its words, its edges' words, and three for the table.
 use Rattle.std.proofs.Common.{ℕ, ◌+◌, ◌-◌, ◌*◌, ◌/◌, ◌<◌, ◌≤◌, mul-le-mul_right, mul-le-mul_left, arith}
 use Rattle.std.proofs.lemmas.Nat.{div-add-mod', le-div}
+use Rattle.model.specs.Code.{Prog}
+use Rattle.explore.specs.Found.{Crowded}
 use Rattle.fences.specs.Sizes.{Shares}
 
 -- so many words for each state
@@ -28,3 +30,7 @@ shares_most n words few lent h =
     let a = div-add-mod' (words - 8192) (5 * n + 4) in
     let b = mul-le-mul_right (5 * n + 4) h in
     shares n words 4294967295 few lent (omega arith) (omega arith) (omega arith) (λ m s l. omega arith)
+
+-- more states than fit are more than were allowed
+pub crowded_too : (p : Prog) (limit m : ℕ) → m ≤ limit → Crowded p limit → Crowded p m
+crowded_too p limit m h c = let (q, a, d, l) = c in (q, a, d, omega arith)

@@ -1,5 +1,6 @@
 -- What the public calls promise.
 pub mod Sizes
+pub mod Finding
 pub mod Listing
 pub mod Rows
 pub mod Looks

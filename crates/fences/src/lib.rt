@@ -2,8 +2,10 @@
 #![tactic(auto)]
 
 pub mod fewest;
+pub mod finding;
 pub mod listing;
 pub mod looking;
 pub mod looks;
+pub mod refusals;
 pub mod sizes;
 pub mod telling;

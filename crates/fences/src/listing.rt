@@ -2,28 +2,27 @@
 ghost use Rattle.std.specs.Prelude.{◌≡◌, ℕ, ◌+◌, ◌*◌, ◌<◌, ◌≤◌, List, length};
 ghost use Rattle.lent.specs.Records.{rec};
 ghost use Rattle.program.specs.Meaning.{program};
-ghost use Rattle.explore.specs.Found.{width, moves_of, Explored};
+ghost use Rattle.explore.specs.Found.{width, Explored};
 ghost use Rattle.fences.specs.Listing.{text};
 ghost use Rattle.fences.specs.Rows.{one_row, rows_from, Wrote};
-ghost use Rattle.fences.specs.Says.{ListedFound, ListedOf, ListedPost};
+ghost use Rattle.fences.specs.Finding.{IsFound};
+ghost use Rattle.fences.specs.Says.{ListedFound, ListedPost};
 
-use crate::sizes::states_that_fit;
-use explore::explore::explore;
+use crate::finding::{Found, admitted, find_states};
+use crate::refusals::Refusal;
 use once::finished::finished;
 use once::marks::mark_at_once;
 use program::threads::Program;
-use program::words::from_words;
 use report::outcomes::write_outcome;
 
-// So many outcomes, of so many states; or why not.
-#[derive(Clone, Copy)]
-pub enum Listed {
-    Outcomes(usize, usize),
-    Crowded,
-    OutFull,
-    NoProgram,
-    Few,
+// So many outcomes, of so many states.
+#[derive(Clone, Copy, PartialEq, Eq, Debug)]
+pub struct Listing {
+    pub outcomes: usize,
+    pub states: usize,
 }
+
+pub type Listed = Result<Listing, Refusal>;
 
 // The words of state `i`.
 pub fn record(queue: &[u32], words: usize, i: usize) -> &[u32]
@@ -92,46 +91,28 @@ fn write_rows(p: &Program, queue: &[u32], cost: &[u32], n: usize, out: &mut [u32
     }
 }
 
-// The outcomes of a program whose states are found. What the table took serves for the marks.
-fn list_found(
-    p: &Program,
-    n: usize,
-    queue: &[u32],
-    edges: &[u32],
-    table: &mut [u32],
-    out: &mut [u32],
-) -> Listed
-    requires explored { Explored (program p.now) queue.now edges.now n }
-    requires held { n * width (length (program p.now)) ≤ length queue.now }
-    requires kept { n * moves_of (length (program p.now)) ≤ length edges.now }
-    requires room { 2 * n ≤ length table.old }
+// The outcomes of a program whose states are found. The words that are left serve for the marks.
+fn list_found(p: &Program, found: Found<'_>, out: &mut [u32]) -> Listed
+    requires { IsFound (program p.now) found }
     ensures { ListedFound (program p.now) out.old out.new result }
 {
-    let (cost, from) = table.split_at_mut(n);
+    let Found {
+        n,
+        queue,
+        edges,
+        rest,
+    } = found;
+    let (cost, from) = rest.split_at_mut(n);
     mark_at_once(p, edges, n, cost, from);
     let count = count_finished(p, queue, n);
     if count > out.len() / (9 + 4 * p.count()) {
-        return Listed::OutFull;
+        return Err(Refusal::OutFull);
     }
     write_rows(p, queue, cost, n, out);
-    Listed::Outcomes(count, n)
-}
-
-// The outcomes of a program, in lent words.
-fn list(p: &Program, out: &mut [u32], work: &mut [u32]) -> Listed
-    requires { 65536 ≤ length work.old }
-    ensures { ListedOf (program p.now) (length work.old) out.old out.new result }
-{
-    let threads = p.count();
-    let words = 1 + 3 * threads;
-    let limit = states_that_fit(threads, work.len());
-    let (key, rest) = work.split_at_mut(words);
-    let (queue, rest) = rest.split_at_mut(limit * words);
-    let (edges, table) = rest.split_at_mut(limit * (2 * threads));
-    match explore(p, limit, queue, table, edges, key) {
-        None => Listed::Crowded,
-        Some(n) => list_found(p, n, queue, edges, table, out),
-    }
+    Ok(Listing {
+        outcomes: count,
+        states: n,
+    })
 }
 
 // All outcomes of the program that the words are, in at most `most` states: into `out` a row for each, 1 if it also
@@ -139,11 +120,7 @@ fn list(p: &Program, out: &mut [u32], work: &mut [u32]) -> Listed
 pub fn outcomes(words: &[u32], most: u32, out: &mut [u32], work: &mut [u32]) -> Listed
     ensures { ListedPost words.now most (length work.old) out.old out.new result }
 {
-    if work.len() < 65536 + 128 * (most as usize + 1) {
-        return Listed::Few;
-    }
-    let Some(p) = from_words(words) else {
-        return Listed::NoProgram;
-    };
-    list(&p, out, work)
+    let p = admitted(words, most, work.len())?;
+    let found = find_states(&p, work)?;
+    list_found(&p, found, out)
 }

@@ -10,44 +10,44 @@ mark_at_once-requires c =
     let f = c.split_at_mut-cost.ensures.front_len in
     let b = c.split_at_mut-cost.ensures.back_len in
     let r = c.requires.room in
-    record { explored = (c.args.queue.now, c.requires.explored); held = c.requires.kept; in_cost = omega arith; in_from = omega arith }
+    record { explored = (c.args.found.queue.now, c.requires.explored); held = c.requires.kept; in_cost = omega arith; in_from = omega arith }
 
 pub count_finished-count-requires : goal.count_finished-count-requires
-count_finished-count-requires c = record { explored = (c.args.edges.now, c.requires.explored); held = c.requires.held }
+count_finished-count-requires c = record { explored = (c.args.found.edges.now, c.requires.explored); held = c.requires.held }
 
 pub returns-then-count-out : goal.returns-then-count-out
 returns-then-count-out c =
     let p = c.args.p.now in
-    let q = c.args.queue.now in
+    let q = c.args.found.queue.now in
     let cost = c.mark_at_once.new.cost in (
-      rows_from (program p) q cost 0 c.args.n,
-      lists (program p) q c.args.edges.now cost c.args.n c.requires.explored (c.mark_at_once.ensures.marks q c.requires.explored),
-      rows_too_long p _ c.count.ensures.value q c.args.edges.now cost c.args.n c.count_finished-count.result (length c.args.out.now) c.requires.explored (c.count_finished-count.ensures.count cost) c.if-count-out.true,
+      rows_from (program p) q cost 0 c.args.found.n,
+      lists (program p) q c.args.found.edges.now cost c.args.found.n c.requires.explored (c.mark_at_once.ensures.marks q c.requires.explored),
+      rows_too_long p _ c.count.ensures.value q c.args.found.edges.now cost c.args.found.n c.count_finished-count.result (length c.args.out.now) c.requires.explored (c.count_finished-count.ensures.count cost) c.if-count-out.true,
       refl,
     )
 
 pub write_rows-requires : goal.write_rows-requires
 write_rows-requires c =
     let p = c.args.p.now in
-    let q = c.args.queue.now in
+    let q = c.args.found.queue.now in
     let cost = c.mark_at_once.new.cost in
     let f = c.split_at_mut-cost.ensures.front_len in
     let k = c.mark_at_once.auto.cost in
     record {
-      explored = (c.args.edges.now, c.requires.explored);
+      explored = (c.args.found.edges.now, c.requires.explored);
       held = c.requires.held;
       marked = omega arith;
-      room = rows_fit p _ c.count.ensures.value q c.args.edges.now cost c.args.n c.count_finished-count.result (length c.args.out.now) c.requires.explored (c.count_finished-count.ensures.count cost) c.if-count-out.false;
+      room = rows_fit p _ c.count.ensures.value q c.args.found.edges.now cost c.args.found.n c.count_finished-count.result (length c.args.out.now) c.requires.explored (c.count_finished-count.ensures.count cost) c.if-count-out.false;
     }
 
 pub returns : goal.returns
 returns c =
     let p = c.args.p.now in
-    let q = c.args.queue.now in
+    let q = c.args.found.queue.now in
     let cost = c.mark_at_once.new.cost in (
-      rows_from (program p) q cost 0 c.args.n,
-      lists (program p) q c.args.edges.now cost c.args.n c.requires.explored (c.mark_at_once.ensures.marks q c.requires.explored),
-      all_states (program p) q c.args.edges.now c.args.n c.requires.explored,
+      rows_from (program p) q cost 0 c.args.found.n,
+      lists (program p) q c.args.found.edges.now cost c.args.found.n c.requires.explored (c.mark_at_once.ensures.marks q c.requires.explored),
+      all_states (program p) q c.args.found.edges.now c.args.found.n c.requires.explored,
       c.count_finished-count.ensures.count cost,
       c.write_rows.ensures.written,
       c.write_rows.ensures.behind,

@@ -23,7 +23,7 @@ returns-then-out-lt256 c =
     let b = c.in-Some.ensures in
     let l = c.learn-moves.ensures in
     let ms = map (move_of (length p)) (take c.learn-moves.result.0 c.learn-moves.new.path) in
-    (ms, shows p c.args.queue.now c.in-Some.bad ms b.done b.apart l.run, c.if-out-lt256.true, refl)
+    (ms, shows p c.args.found.queue.now c.in-Some.bad ms b.done b.apart l.run, c.if-out-lt256.true, refl)
 
 pub write_moves-requires : goal.write_moves-requires
 write_moves-requires c =
@@ -55,7 +55,7 @@ returns c =
     let f = c.write_fences-count.ensures in (
       ms,
       spots c.fewest-fences.result,
-      shows pr c.args.queue.now c.in-Some.bad ms b.done b.apart l.run,
+      shows pr c.args.found.queue.now c.in-Some.bad ms b.done b.apart l.run,
       c.fewest-fences.ensures,
       run_length (length pr) m path h,
       f.count,

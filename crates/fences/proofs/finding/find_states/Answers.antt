@@ -1,9 +1,8 @@
-use Rattle.std.proofs.Common.{ℕ, ◌*◌, ◌≤◌, length, sym, refl, subst, mul-le-mul_right, arith}
+use Rattle.std.proofs.Common.{ℕ, ◌*◌, ◌≤◌, length, sym, ◌∙◌, subst, mul-le-mul_right, arith}
 use Rattle.program.specs.Meaning.{program}
 use Rattle.explore.specs.Found.{width, moves_of}
-use Rattle.fences.proofs.Listed.{crowded_too}
-use Rattle.fences.proofs.Answered.{looked_of}
-use Rattle.fences.proofs.looking.look_in.Goals as goal
+use Rattle.fences.proofs.FindingLaws.{handed_on, explored_ok, explored_err}
+use Rattle.fences.proofs.finding.find_states.Goals as goal
 
 pub explore-requires : goal.explore-requires
 explore-requires c =
@@ -28,15 +27,22 @@ explore-requires c =
       fits = omega arith;
     }
 
-pub look_found-requires : goal.look_found-requires
-look_found-requires c =
+pub returns-in_err-n : goal.returns-in_err-n
+returns-in_err-n c =
+    let e = c.in_err-n.field-0.0 in
+    rw (handed_on c.from_residual.result e c.from_residual.ensures.1)
+    (explored_err (program c.args.p.now) c.states_that_fit-limit.result (length c.args.work.now) c.explore.new.queue c.explore.new.edges c.explore.result e c.explore.ensures c.states_that_fit-limit.ensures.most (sym c.ok_or.ensures.value ∙ c.in_err-n.was))
+
+pub returns : goal.returns
+returns c =
     let p = c.args.p.now in
     let limit = c.states_that_fit-limit.result in
     let f = c.states_that_fit-limit.ensures in
     let fits = f.fits in
     let l = sym c.count-threads.ensures.value in
-    let n = c.in-Some.n in
-    let few = c.in-Some.ensures.1 in
+    let n = c.in_ok-n.n in
+    let found = explored_ok (program p) limit c.explore.new.queue c.explore.new.edges c.explore.result n c.explore.ensures (sym c.ok_or.ensures.value ∙ c.in_ok-n.was) in
+    let few = found.1 in
     let k2 = c.split_at_mut-key.ensures.back_len in
     let q1 = c.split_at_mut-queue.ensures.front_len in
     let q2 = c.split_at_mut-queue.ensures.back_len in
@@ -48,14 +54,8 @@ look_found-requires c =
     let a = mul-le-mul_right (width c.count-threads.result) few in
     let b = mul-le-mul_right (moves_of c.count-threads.result) few in
     record {
-      explored = c.in-Some.ensures.0;
+      explored = found.0;
       held = subst (λ (z : ℕ). n * width z ≤ length c.explore.new.queue) (sym l) (omega arith);
       kept = subst (λ (z : ℕ). n * moves_of z ≤ length c.explore.new.edges) (sym l) (omega arith);
       room = omega arith;
     }
-
-pub returns-in-None : goal.returns-in-None
-returns-in-None c = ((λ m h w. crowded_too (program c.args.p.now) c.states_that_fit-limit.result m (c.states_that_fit-limit.ensures.most m h w) c.in-None.ensures), refl)
-
-pub returns-in-Some : goal.returns-in-Some
-returns-in-Some c = looked_of (program c.args.p.now) (length c.args.work.now) c.args.out.now c.look_found.new.out c.look_found.result c.look_found.ensures
