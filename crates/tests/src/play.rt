@@ -43,8 +43,8 @@ pub fn play(p: &Program, turns: &[Turn], state: &mut [u32], spare: &mut [u32]) -
     requires same { length spare.old ≡ length state.old }
 {
     state.fill(0);
-    for i in 0..turns.len() {
-        if !make(p, turns[i], state, spare) {
+    for (i, turn) in turns.iter().enumerate() {
+        if !make(p, *turn, state, spare) {
             return i;
         }
         state.copy_from_slice(spare);
