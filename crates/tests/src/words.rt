@@ -83,7 +83,7 @@ fn no_instruction(rt: HostRuntime) {
     for row in refused {
         assert!(rt; from_words(&alone(row)).is_none(), "{row:?}");
     }
-    // the greatest word in each place
+    // the greatest word in each place; by its index, since each turn changes one word of a row of its own
     for row in EDGES {
         for k in 0..4 {
             let mut large = row;
