@@ -1,29 +1,29 @@
 -- The structs that C gets say what the enums of the calls say.
-use Rattle.std.specs.Prelude.{◌≡◌, List, ℕ}
-use Rattle.fences.specs.declared.looking.Looked.{Looked}
-use Rattle.fences.specs.declared.looking.Looked.TheVariants as looked
-use Rattle.fences.specs.declared.listing.Listed.{Listed}
-use Rattle.fences.specs.declared.listing.Listed.TheVariants as listed
-use Rattle.fences.specs.Answers.{LookedPost}
-use Rattle.fences.specs.Says.{ListedPost}
+use Rattle.std.specs.Prelude.{◌≡◌, List, ℕ, Ok, Err}
+use Rattle.fences.specs.declared.looking.Verdict.TheVariants as verdict
+use Rattle.fences.specs.declared.refusals.Refusal.{Refusal}
+use Rattle.fences.specs.declared.refusals.Refusal.TheVariants as refusal
+use Rattle.fences.specs.Answers.{Looked, LookedPost}
+use Rattle.fences.specs.Says.{Listed, ListedPost}
 use Rattle.capi.specs.declared.FencesLooked.{FencesLooked}
 use Rattle.capi.specs.declared.FencesListed.{FencesListed}
 
+-- the kind of a refusal
+abbrev pub kind_of : Refusal → ℕ
+kind_of refusal.Crowded = 2
+kind_of refusal.OutFull = 3
+kind_of refusal.NoProgram = 4
+kind_of refusal.Few = 5
+
 -- the kind, and the numbers that come with it; 0 where none does
 abbrev pub looked_as : Looked → FencesLooked
-looked_as looked.Plain = record { kind = 0; moves = 0; fences = 0 }
-looked_as (looked.Fences m k) = record { kind = 1; moves = m; fences = k }
-looked_as looked.Crowded = record { kind = 2; moves = 0; fences = 0 }
-looked_as looked.OutFull = record { kind = 3; moves = 0; fences = 0 }
-looked_as looked.NoProgram = record { kind = 4; moves = 0; fences = 0 }
-looked_as looked.Few = record { kind = 5; moves = 0; fences = 0 }
+looked_as (Ok verdict.Plain) = record { kind = 0; moves = 0; fences = 0 }
+looked_as (Ok (verdict.Fences m k)) = record { kind = 1; moves = m; fences = k }
+looked_as (Err e) = record { kind = kind_of e; moves = 0; fences = 0 }
 
 abbrev pub listed_as : Listed → FencesListed
-listed_as (listed.Outcomes k n) = record { kind = 0; outcomes = k; states = n }
-listed_as listed.Crowded = record { kind = 2; outcomes = 0; states = 0 }
-listed_as listed.OutFull = record { kind = 3; outcomes = 0; states = 0 }
-listed_as listed.NoProgram = record { kind = 4; outcomes = 0; states = 0 }
-listed_as listed.Few = record { kind = 5; outcomes = 0; states = 0 }
+listed_as (Ok l) = record { kind = 0; outcomes = l.outcomes; states = l.states }
+listed_as (Err e) = record { kind = kind_of e; outcomes = 0; states = 0 }
 
 -- the answer keeps the promise of 'look'
 pub record LookedC (s : List ℕ) (most w : ℕ) (o o' : List ℕ) (r : FencesLooked) : Type 0 where

@@ -2,10 +2,11 @@
 #![tactic(auto)]
 
 ghost use Rattle.std.specs.Prelude.{◌≡◌, length};
-ghost use Rattle.capi.specs.Told.{looked_as, listed_as, LookedC, ListedC};
+ghost use Rattle.capi.specs.Told.{kind_of, looked_as, listed_as, LookedC, ListedC};
 
-use fences::listing::{Listed, outcomes};
-use fences::looking::{Looked, look};
+use fences::listing::{Listed, Listing, outcomes};
+use fences::looking::{Looked, Verdict, look};
+use fences::refusals::Refusal;
 
 // What `look` answers: its kind, and with `fences` how many moves and how many fences are told.
 #[repr(C)]
@@ -25,16 +26,25 @@ pub struct FencesListed {
     pub states: usize,
 }
 
+// A struct of C has no enum: its kind is a number.
+fn kind_of(refusal: Refusal) -> u32
+    ensures { result ≡ kind_of refusal }
+{
+    match refusal {
+        Refusal::Crowded => 2,
+        Refusal::OutFull => 3,
+        Refusal::NoProgram => 4,
+        Refusal::Few => 5,
+    }
+}
+
 fn looked(answer: Looked) -> FencesLooked
     ensures { result ≡ looked_as answer }
 {
     let (kind, moves, fences) = match answer {
-        Looked::Plain => (0, 0, 0),
-        Looked::Fences(moves, fences) => (1, moves, fences),
-        Looked::Crowded => (2, 0, 0),
-        Looked::OutFull => (3, 0, 0),
-        Looked::NoProgram => (4, 0, 0),
-        Looked::Few => (5, 0, 0),
+        Ok(Verdict::Plain) => (0, 0, 0),
+        Ok(Verdict::Fences(moves, fences)) => (1, moves, fences),
+        Err(refusal) => (kind_of(refusal), 0, 0),
     };
     FencesLooked {
         kind,
@@ -47,11 +57,8 @@ fn listed(answer: Listed) -> FencesListed
     ensures { result ≡ listed_as answer }
 {
     let (kind, outcomes, states) = match answer {
-        Listed::Outcomes(outcomes, states) => (0, outcomes, states),
-        Listed::Crowded => (2, 0, 0),
-        Listed::OutFull => (3, 0, 0),
-        Listed::NoProgram => (4, 0, 0),
-        Listed::Few => (5, 0, 0),
+        Ok(Listing { outcomes, states }) => (0, outcomes, states),
+        Err(refusal) => (kind_of(refusal), 0, 0),
     };
     FencesListed {
         kind,

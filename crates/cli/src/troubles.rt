@@ -2,6 +2,7 @@
 ghost use Rattle.std.specs.Prelude.{◌≡◌, ◌↔◌, IsOk};
 ghost use Rattle.std.specs.Process.{exit_status};
 
+use fences::refusals::Refusal;
 use std::alloc::{AllocError, AllocFailed};
 use std::process::ExitCode;
 use std::{fmt, io};
@@ -31,25 +32,21 @@ pub enum Trouble {
 
 // Why a call gives no answer for a program that could be read.
 #[derive(Clone, Copy, PartialEq, Eq, Debug)]
-pub enum Why {
-    Crowded,
-    // too few words for a run and fences
-    RunFull,
-    // too few words for all outcomes
-    OutcomesFull,
-    NoProgram,
-    Few,
+pub struct Why {
+    pub refusal: Refusal,
+    // what is said where there are too few words to write the answer to
+    pub full: &'static str,
 }
 
 impl fmt::Display for Why {
     fn fmt<W: fmt::Write>(&self, f: &mut fmt::Formatter<W>) -> fmt::Result {
-        f.write_str(match *self {
-            Why::Crowded => "crowded: more states than 4 MiB hold",
-            Why::RunFull => "out full: too few words for the answer",
-            Why::OutcomesFull => "out full: more outcomes than 4 MiB hold",
-            Why::NoProgram => "no program",
-            Why::Few => "few: too little memory is lent",
-        })
+        let Why { refusal, full } = *self;
+        match refusal {
+            Refusal::Crowded => write!(f, "{refusal}: more states than 4 MiB hold"),
+            Refusal::OutFull => write!(f, "{refusal}: {full}"),
+            Refusal::NoProgram => write!(f, "{refusal}"),
+            Refusal::Few => write!(f, "{refusal}: too little memory is lent"),
+        }
     }
 }
 

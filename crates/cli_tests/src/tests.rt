@@ -1,5 +1,8 @@
 // Tests of what the programs share: numbers in lines, and what is shown of an outcome.
+use cli::lending::Lent;
 use cli::{numbers, shown};
+use fences::listing::Listed;
+use fences::looking::Looked;
 use std::alloc::Global;
 use std::process::Abort;
 use std::test::Fail;
@@ -55,18 +58,22 @@ fn reads_numbers(rt: HostRuntime) -> Result<(), Fail> {
     )
 }
 
+// Title and place of all that is shown of a program.
+fn shown_of(heap: Global, text: &str) -> Result<String, Fail> {
+    let source = reading::parse(heap, text)?;
+    let mut told = String::new(heap);
+    for one in shown::of_program(heap, &source)?.iter() {
+        let (title, at) = (one.title.as_str(), one.at);
+        write!(told, "{title} {at};")?;
+    }
+    Ok(told)
+}
+
 // Registers and places that the program uses, in the order of an outcome's values.
 #[test]
 fn shows_what_is_used(rt: HostRuntime) -> Result<(), Fail> {
     let heap = rt.alloc();
-    let source = reading::parse(heap, "up | down\nr3 = [b] | [a] = r1")?;
-    let all = shown::of_program(heap, &source)?;
-    let mut told = String::new(heap);
-    for one in all.as_slice() {
-        let title = one.title.as_str();
-        let at = one.at;
-        told.push_str(format!(in heap; "{title} {at};")?.as_str())?;
-    }
+    let told = shown_of(heap, "up | down\nr3 = [b] | [a] = r1")?;
     assert!(rt; told.as_str() == "up.r3 3;down.r1 5;[b] 8;[a] 9;");
     Ok(())
 }
@@ -74,17 +81,10 @@ fn shows_what_is_used(rt: HostRuntime) -> Result<(), Fail> {
 #[test]
 fn shows_all_that_is_used(rt: HostRuntime) -> Result<(), Fail> {
     let heap = rt.alloc();
-    let source = reading::parse(
+    let told = shown_of(
         heap,
         "up | down\nr3 = [b] | [a] = r1\nr0 = 2 | r2 = r3 + r0",
     )?;
-    let all = shown::of_program(heap, &source)?;
-    let mut told = String::new(heap);
-    for one in all.as_slice() {
-        let title = one.title.as_str();
-        let at = one.at;
-        told.push_str(format!(in heap; "{title} {at};")?.as_str())?;
-    }
     assert!(rt;
         told.as_str() == "up.r0 0;up.r3 3;down.r0 4;down.r1 5;down.r2 6;down.r3 7;[b] 8;[a] 9;"
     );
@@ -101,5 +101,23 @@ fn tells_words(rt: HostRuntime) -> Result<(), Fail> {
     let words = words::to_words(heap, &source)?;
     let told = numbers::line(heap, words.as_slice())?;
     assert!(rt; told.as_str() == "2 5 0 1 7 0 1 1 2 3 2 1 5 0 3 5 1 0 4 0 0 0 0");
+    Ok(())
+}
+
+// The calls answer in memory that is lent, and what they tell is read in parts.
+#[test]
+fn lends_memory(rt: HostRuntime) -> Result<(), Fail> {
+    let heap = rt.alloc();
+    let source = reading::parse(
+        heap,
+        "up | down\nr0 = 1 | r0 = 1\n[a] = r0 | [b] = r0\nr1 = [b] | r1 = [a]",
+    )?;
+    let words = words::to_words(heap, &source)?;
+    let mut lent = Lent::new(heap, 100, 65_536 + 128 * 101, 256)?;
+    assert!(rt; matches!(lent.outcomes(words.as_slice()), Listed::Outcomes(4, 45)));
+    assert!(rt; matches!(lent.look(words.as_slice()), Looked::Fences(8, 2)));
+    assert!(rt; lent.told(8, 4) == [0, 2, 1, 2].as_slice());
+    assert!(rt; lent.told(252, 9).len() == 4);
+    assert!(rt; lent.told(300, 9).is_empty());
     Ok(())
 }

@@ -1,6 +1,9 @@
 // What one of the two answers says of words, in one shape for both, so that it can be compared and printed.
 use cli::numbers;
+use fences::listing::Listed;
+use fences::looking::{Looked, Verdict};
 use orders::threads::Spot;
+use std::alloc::{AllocError, Global};
 
 // Of a program: its outcomes, sorted, a row each (1 if it also comes out at once, else 0; all registers, thread by thread;
 // memory); whether it is plain; and the fewest fences, none if it is plain.
@@ -17,7 +20,22 @@ pub enum Said {
     Crowded,
     Program(Answer),
     // what `look` said and what `outcomes` said, where these don't go together
-    Apart(&'static str, &'static str),
+    Apart(Looked, Listed),
+}
+
+fn looked_name(heap: Global, looked: Looked) -> Result<String, AllocError> {
+    match looked {
+        Ok(Verdict::Plain) => String::from_str(heap, "plain"),
+        Ok(Verdict::Fences(_, _)) => String::from_str(heap, "fences"),
+        Err(refusal) => refusal.to_string(heap),
+    }
+}
+
+fn listed_name(heap: Global, listed: Listed) -> Result<String, AllocError> {
+    match listed {
+        Ok(_) => String::from_str(heap, "outcomes"),
+        Err(refusal) => refusal.to_string(heap),
+    }
 }
 
 fn print_answer(rt: &HostRuntime, answer: &Answer) -> anyhow::Result<()> {
@@ -43,7 +61,11 @@ pub fn print(rt: &HostRuntime, said: &Said) -> anyhow::Result<()> {
         Said::NoProgram => rt.println("    no program")?,
         Said::Crowded => rt.println("    crowded")?,
         Said::Program(answer) => print_answer(rt, answer)?,
-        Said::Apart(looked, listed) => println!(rt; "    look: {looked}; outcomes: {listed}")?,
+        Said::Apart(looked, listed) => {
+            let looked = looked_name(rt.alloc(), *looked)?;
+            let listed = listed_name(rt.alloc(), *listed)?;
+            println!(rt; "    look: {looked}; outcomes: {listed}")?;
+        }
     }
     Ok(())
 }

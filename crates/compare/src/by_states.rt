@@ -1,8 +1,8 @@
 // The first answer, by the calls that are compared: `look` and `outcomes`, with memory lent to them.
 use crate::answers::{Answer, Said};
 use cli::lending::Lent;
-use fences::listing::Listed;
-use fences::looking::Looked;
+use fences::looking::Verdict;
+use fences::refusals::Refusal;
 use orders::threads::Spot;
 use std::alloc::{AllocError, Global};
 
@@ -24,27 +24,6 @@ pub struct First {
 
 pub fn lent(heap: Global) -> Result<Lent, AllocError> {
     Lent::new(heap, STATES, WORK, OUT)
-}
-
-fn looked_name(looked: Looked) -> &'static str {
-    match looked {
-        Looked::Plain => "plain",
-        Looked::Fences(_, _) => "fences",
-        Looked::Crowded => "crowded",
-        Looked::OutFull => "out full",
-        Looked::NoProgram => "no program",
-        Looked::Few => "few",
-    }
-}
-
-fn listed_name(listed: Listed) -> &'static str {
-    match listed {
-        Listed::Outcomes(_, _) => "outcomes",
-        Listed::Crowded => "crowded",
-        Listed::OutFull => "out full",
-        Listed::NoProgram => "no program",
-        Listed::Few => "few",
-    }
 }
 
 // The first `count` rows of `out`, sorted.
@@ -82,22 +61,20 @@ fn spots(heap: Global, words: &[u32]) -> Result<Vec<Spot>, AllocError> {
 pub fn ask(heap: Global, lent: &mut Lent, words: &[u32]) -> Result<First, AllocError> {
     let looked = lent.look(words);
     let (told, count) = match looked {
-        Looked::Fences(told, fences) => (told, fences.saturating_mul(2)),
+        Ok(Verdict::Fences(told, fences)) => (told, fences.saturating_mul(2)),
         _ => (0, 0),
     };
     let moves = lent.told(0, told).to_vec(heap)?;
     let fences = spots(heap, lent.told(told, count))?;
     let said = match (looked, lent.outcomes(words)) {
-        (Looked::NoProgram, Listed::NoProgram) => Said::NoProgram,
-        (Looked::Crowded, Listed::Crowded) => Said::Crowded,
-        (Looked::Plain | Looked::Fences(_, _), Listed::Outcomes(count, _)) => Said::Program(
-            Answer {
-                rows: rows(heap, lent.out.as_slice(), words, count)?,
-                plain: matches!(looked, Looked::Plain),
-                fences,
-            },
-        ),
-        (looked, listed) => Said::Apart(looked_name(looked), listed_name(listed)),
+        (Err(Refusal::NoProgram), Err(Refusal::NoProgram)) => Said::NoProgram,
+        (Err(Refusal::Crowded), Err(Refusal::Crowded)) => Said::Crowded,
+        (Ok(verdict), Ok(listing)) => Said::Program(Answer {
+            rows: rows(heap, lent.out.as_slice(), words, listing.outcomes)?,
+            plain: verdict == Verdict::Plain,
+            fences,
+        }),
+        (looked, listed) => Said::Apart(looked, listed),
     };
     Ok(First { said, moves })
 }

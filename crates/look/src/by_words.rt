@@ -4,20 +4,17 @@ use cli::lending::Lent;
 use cli::lines::Lines;
 use cli::numbers;
 use cli::troubles::Trouble;
-use fences::looking::Looked;
+use fences::looking::Verdict;
 
 fn answer_one(rt: &HostRuntime, lent: &mut Lent, words: &[u32]) -> Result<(), Trouble> {
     match lent.look(words) {
-        Looked::Plain => rt.println("plain")?,
-        Looked::Fences(moves, fences) => {
+        Ok(Verdict::Plain) => rt.println("plain")?,
+        Ok(Verdict::Fences(moves, fences)) => {
             let count = fences.saturating_mul(2).saturating_add(moves);
             let told = numbers::line(rt.alloc(), lent.told(0, count))?;
             println!(rt; "fences {moves} {fences} {told}")?;
         }
-        Looked::Crowded => rt.println("crowded")?,
-        Looked::OutFull => rt.println("out full")?,
-        Looked::NoProgram => rt.println("no program")?,
-        Looked::Few => rt.println("few")?,
+        Err(refusal) => rt.println(refusal)?,
     }
     Ok(())
 }

@@ -4,7 +4,7 @@ use crate::moves;
 use cli::fenced;
 use cli::input::Input;
 use cli::troubles::{Trouble, Why};
-use fences::looking::Looked;
+use fences::looking::Verdict;
 use text::source::Source;
 use text::{printing, words};
 
@@ -58,21 +58,23 @@ pub fn answer(rt: &HostRuntime, input: Input) -> Result<(), Trouble> {
     let Input { name, source } = input;
     let words = words::to_words(heap, &source)?;
     let mut lent = lent(heap)?;
-    let why = match lent.look(words.as_slice()) {
-        Looked::Plain => {
+    match lent.look(words.as_slice()) {
+        Ok(Verdict::Plain) => {
             rt.println("plain: all that comes out comes out at once")?;
-            return Ok(());
+            Ok(())
         }
-        Looked::Fences(count, fences) => {
+        Ok(Verdict::Fences(count, fences)) => {
             print_verdict(rt, fences)?;
             let run = lent.told(0, count);
             let fences = lent.told(count, fences.saturating_mul(2));
-            return print_not_plain(rt, &source, run, fences);
+            print_not_plain(rt, &source, run, fences)
         }
-        Looked::Crowded => Why::Crowded,
-        Looked::OutFull => Why::RunFull,
-        Looked::NoProgram => Why::NoProgram,
-        Looked::Few => Why::Few,
-    };
-    Err(Trouble::Unanswered { file: name, why })
+        Err(refusal) => Err(Trouble::Unanswered {
+            file: name,
+            why: Why {
+                refusal,
+                full: "too few words for the answer",
+            },
+        }),
+    }
 }

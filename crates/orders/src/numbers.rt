@@ -1,6 +1,6 @@
 // What a memory order makes of a program: the number that each event reads or writes, and the registers and the memory
 // at the end. Which orders there are is not said here.
-ghost use Rattle.std.specs.Prelude.{◌≡◌, ◌+◌, ◌*◌, length, IfOk, OnOk, vec_len, slice_index, slice_set};
+ghost use Rattle.std.specs.Prelude.{◌≡◌, ◌+◌, ◌*◌, length, IfOk, vec_len, slice_index, slice_set};
 
 use crate::events::{Event, older};
 use crate::threads::Spot;
@@ -14,7 +14,7 @@ fn cell(cells: &[u32], i: u32) -> u32
     cells.get(i as usize).copied().unwrap_or(0)
 }
 
-// A number into a cell; nothing changes past the end.
+// A number into a cell; nothing changes past the end. By its index: through `get_mut` what it ensures is not proved.
 fn put(cells: &mut [u32], i: u32, number: u32)
     ensures { cells.new ≡ slice_set cells.old i number }
 {

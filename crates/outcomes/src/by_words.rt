@@ -5,7 +5,6 @@ use cli::lending::Lent;
 use cli::lines::Lines;
 use cli::numbers;
 use cli::troubles::Trouble;
-use fences::listing::Listed;
 
 // Prints the outcomes in `lent`, a line each.
 fn print_outcomes(
@@ -26,14 +25,11 @@ fn print_outcomes(
 // Answers for one program, and ends the answer with an empty line.
 fn answer_one(rt: &HostRuntime, lent: &mut Lent, words: &[u32]) -> Result<(), Trouble> {
     match lent.outcomes(words) {
-        Listed::Outcomes(count, _) => {
+        Ok(listing) => {
             let threads = words.first().copied().unwrap_or(0);
-            print_outcomes(rt, lent, threads, count)?;
+            print_outcomes(rt, lent, threads, listing.outcomes)?;
         }
-        Listed::Crowded => rt.println("crowded")?,
-        Listed::OutFull => rt.println("out full")?,
-        Listed::NoProgram => rt.println("no program")?,
-        Listed::Few => rt.println("few")?,
+        Err(refusal) => rt.println(refusal)?,
     }
     rt.println("")?;
     Ok(())

@@ -6,7 +6,7 @@ use cli::input::Input;
 use cli::shown;
 use cli::shown::Shown;
 use cli::troubles::{Trouble, Why};
-use fences::listing::Listed;
+use fences::listing::Listing;
 use std::alloc::{AllocError, Global};
 use std::fmt::Display;
 use text::source::Source;
@@ -78,16 +78,18 @@ pub fn answer(rt: &HostRuntime, input: Input) -> Result<(), Trouble> {
     let Input { name, source } = input;
     let words = words::to_words(heap, &source)?;
     let mut lent = lent(heap)?;
-    let why = match lent.outcomes(words.as_slice()) {
-        Listed::Outcomes(count, states) => {
+    match lent.outcomes(words.as_slice()) {
+        Ok(Listing { outcomes, states }) => {
             let threads = words.first().copied().unwrap_or(0);
-            let rows = rows::sorted(heap, lent.out.as_slice(), threads, count)?;
-            return print_table(rt, &source, rows.as_slice(), states);
+            let rows = rows::sorted(heap, lent.out.as_slice(), threads, outcomes)?;
+            print_table(rt, &source, rows.as_slice(), states)
         }
-        Listed::Crowded => Why::Crowded,
-        Listed::OutFull => Why::OutcomesFull,
-        Listed::NoProgram => Why::NoProgram,
-        Listed::Few => Why::Few,
-    };
-    Err(Trouble::Unanswered { file: name, why })
+        Err(refusal) => Err(Trouble::Unanswered {
+            file: name,
+            why: Why {
+                refusal,
+                full: "more outcomes than 4 MiB hold",
+            },
+        }),
+    }
 }

@@ -1,6 +1,6 @@
 // Runs at once: a store goes to memory in the step that does it.
 use crate::play::Turn::{AtOnce, Next};
-use crate::runs::{Run, check_runs};
+use crate::runs::{Run, STORE_BUFFERING, check_runs};
 use std::test::Fail;
 
 const STORE_AND_LOAD: &[[u32; 4]] = &[[0, 0, 5, 0], [3, 2, 0, 0], [2, 1, 2, 0]];
@@ -71,10 +71,7 @@ fn at_once(rt: HostRuntime) -> Result<(), Fail> {
         },
         // one of two threads that each store 1 and then read where the other stored reads 1: here both
         Run {
-            threads: &[
-                &[[0, 0, 1, 0], [3, 0, 0, 0], [2, 1, 1, 0]],
-                &[[0, 0, 1, 0], [3, 1, 0, 0], [2, 1, 0, 0]],
-            ],
+            threads: STORE_BUFFERING,
             turns: &[
                 AtOnce(0),
                 AtOnce(1),

@@ -1,13 +1,7 @@
 // Runs under guards: a guarded instruction is done only if nothing of its thread waits.
 use crate::play::Turn::{Guarded, Next, Out};
-use crate::runs::{Run, check_runs};
+use crate::runs::{Run, STORE_BUFFERING, check_runs};
 use std::test::Fail;
-
-// Each thread stores 1 and then reads where the other stored.
-const STORE_BUFFERING: &[&[[u32; 4]]] = &[
-    &[[0, 0, 1, 0], [3, 0, 0, 0], [2, 1, 1, 0]],
-    &[[0, 0, 1, 0], [3, 1, 0, 0], [2, 1, 0, 0]],
-];
 
 const BOTH_READ_0: &[u32] = &[0x11, 0x3_0001, 0, 0, 0x3_0001, 0, 0];
 

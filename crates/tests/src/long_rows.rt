@@ -1,18 +1,7 @@
 // Runs with registers written over, and with rows of many waiting stores.
 use crate::play::Turn::{Next, Out};
-use crate::runs::{Run, check_runs};
+use crate::runs::{EIGHT_STORES, Run, check_runs};
 use std::test::Fail;
-
-const EIGHT_STORES: &[[u32; 4]] = &[
-    [3, 0, 0, 0],
-    [3, 1, 0, 0],
-    [3, 2, 0, 0],
-    [3, 3, 0, 0],
-    [3, 4, 0, 0],
-    [3, 5, 0, 0],
-    [3, 6, 0, 0],
-    [3, 7, 0, 0],
-];
 
 const SEVEN_STORES_AND_FENCE: &[[u32; 4]] = &[
     [3, 0, 0, 0],

@@ -1,7 +1,7 @@
 // Runs of the machine. Each tells the right outcome from the one that a wrong machine would come to.
 use crate::play::Turn;
 use crate::play::Turn::{Next, Out};
-use crate::runs::{Run, check_runs};
+use crate::runs::{EIGHT_STORES, Run, STORE_BUFFERING, check_runs};
 use std::test::Fail;
 
 // Eight instructions, and then eight stores going.
@@ -22,17 +22,6 @@ const EIGHT_AND_EIGHT: &[Turn] = &[
     Out(0),
     Out(0),
     Out(0),
-];
-
-const EIGHT_STORES: &[[u32; 4]] = &[
-    [3, 0, 0, 0],
-    [3, 1, 0, 0],
-    [3, 2, 0, 0],
-    [3, 3, 0, 0],
-    [3, 4, 0, 0],
-    [3, 5, 0, 0],
-    [3, 6, 0, 0],
-    [3, 7, 0, 0],
 ];
 
 const SEVEN_STORES_OF_15: &[[u32; 4]] = &[
@@ -181,10 +170,7 @@ fn waiting_stores(rt: HostRuntime) -> Result<(), Fail> {
         },
         // so two threads can both store 1 and then both read 0 where the other stored
         Run {
-            threads: &[
-                &[[0, 0, 1, 0], [3, 0, 0, 0], [2, 1, 1, 0]],
-                &[[0, 0, 1, 0], [3, 1, 0, 0], [2, 1, 0, 0]],
-            ],
+            threads: STORE_BUFFERING,
             turns: &[
                 Next(0),
                 Next(1),

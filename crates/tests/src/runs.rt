@@ -18,6 +18,23 @@ pub struct Run<'a> {
     pub state: &'a [u32],
 }
 
+pub const EIGHT_STORES: &[[u32; 4]] = &[
+    [3, 0, 0, 0],
+    [3, 1, 0, 0],
+    [3, 2, 0, 0],
+    [3, 3, 0, 0],
+    [3, 4, 0, 0],
+    [3, 5, 0, 0],
+    [3, 6, 0, 0],
+    [3, 7, 0, 0],
+];
+
+// Each thread stores 1 and then reads where the other stored.
+pub const STORE_BUFFERING: &[&[[u32; 4]]] = &[
+    &[[0, 0, 1, 0], [3, 0, 0, 0], [2, 1, 1, 0]],
+    &[[0, 0, 1, 0], [3, 1, 0, 0], [2, 1, 0, 0]],
+];
+
 fn words_of(heap: Global, threads: &[&[[u32; 4]]]) -> Result<Vec<u32>, Fail> {
     let mut words = Vec::new(heap);
     words.push(u32::try_from(threads.len())?)?;
@@ -32,9 +49,7 @@ fn words_of(heap: Global, threads: &[&[[u32; 4]]]) -> Result<Vec<u32>, Fail> {
 
 fn check_run(rt: &impl Abort, heap: Global, i: usize, run: Run<'_>) -> Result<(), Fail> {
     let words = words_of(heap, run.threads)?;
-    let Some(p) = from_words(words.as_slice()) else {
-        return Err(Fail::new("refused"));
-    };
+    let p = from_words(words.as_slice()).ok_or("refused")?;
     let width = 1 + 3 * p.count();
     let mut first = [0; 13];
     let mut second = [0; 13];

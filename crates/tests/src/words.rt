@@ -83,7 +83,7 @@ fn no_instruction(rt: HostRuntime) {
     for row in refused {
         assert!(rt; from_words(&alone(row)).is_none(), "{row:?}");
     }
-    // the greatest word in each place
+    // the greatest word in each place; by its index, since each turn changes one word of a row of its own
     for row in EDGES {
         for k in 0..4 {
             let mut large = row;
@@ -95,9 +95,7 @@ fn no_instruction(rt: HostRuntime) {
 
 // The words are a program, and its words are these again.
 fn check_back(rt: &impl Abort, heap: Global, words: &[u32]) -> Result<(), Fail> {
-    let Some(p) = from_words(words) else {
-        return Err(Fail::new("refused"));
-    };
+    let p = from_words(words).ok_or("refused")?;
     let back = to_words(heap, &p)?;
     assert_eq!(rt; back.as_slice(), words);
     Ok(())
@@ -116,8 +114,8 @@ fn there_and_back(rt: HostRuntime) -> Result<(), Fail> {
     words.push(4)?;
     for _ in 0..4 {
         words.push(8)?;
-        for k in 1..9 {
-            words.extend_from_slice(&EDGES[k])?;
+        for row in &EDGES[1..] {
+            words.extend_from_slice(row)?;
         }
     }
     check_back(&rt, rt.alloc(), words.as_slice())?;
@@ -136,9 +134,7 @@ fn there_and_back(rt: HostRuntime) -> Result<(), Fail> {
 
 #[test]
 fn instructions_by_number(rt: HostRuntime) -> Result<(), Fail> {
-    let Some(p) = from_words(&[2, 0, 2, 0, 3, 15, 0, 3, 7, 3, 0]) else {
-        return Err(Fail::new("refused"));
-    };
+    let p = from_words(&[2, 0, 2, 0, 3, 15, 0, 3, 7, 3, 0]).ok_or("refused")?;
     let first = p.instruction(1, 0).ok_or("none")?;
     assert_eq!(rt; instruction_to_words(first), [0, 3, 15, 0]);
     let last = p.instruction(1, 1).ok_or("none")?;
