@@ -34,16 +34,31 @@ pub enum Trouble {
 #[derive(Clone, Copy, PartialEq, Eq, Debug)]
 pub struct Why {
     pub refusal: Refusal,
-    // what is said where there are too few words to write the answer to
-    pub full: &'static str,
+    pub wanted: Wanted,
+}
+
+// What the call was to write, told where there are too few words for it.
+#[derive(Clone, Copy, PartialEq, Eq, Debug)]
+pub enum Wanted {
+    Verdict,
+    Outcomes,
+}
+
+impl fmt::Display for Wanted {
+    fn fmt<W: fmt::Write>(&self, f: &mut fmt::Formatter<W>) -> fmt::Result {
+        f.write_str(match *self {
+            Wanted::Verdict => "too few words for the answer",
+            Wanted::Outcomes => "more outcomes than 4 MiB hold",
+        })
+    }
 }
 
 impl fmt::Display for Why {
     fn fmt<W: fmt::Write>(&self, f: &mut fmt::Formatter<W>) -> fmt::Result {
-        let Why { refusal, full } = *self;
+        let Why { refusal, wanted } = *self;
         match refusal {
             Refusal::Crowded => write!(f, "{refusal}: more states than 4 MiB hold"),
-            Refusal::OutFull => write!(f, "{refusal}: {full}"),
+            Refusal::OutFull => write!(f, "{refusal}: {wanted}"),
             Refusal::NoProgram => write!(f, "{refusal}"),
             Refusal::Few => write!(f, "{refusal}: too little memory is lent"),
         }

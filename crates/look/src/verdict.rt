@@ -3,7 +3,7 @@ use crate::answers::lent;
 use crate::moves;
 use cli::fenced;
 use cli::input::Input;
-use cli::troubles::{Trouble, Why};
+use cli::troubles::{Trouble, Wanted, Why};
 use fences::looking::Verdict;
 use text::source::Source;
 use text::{printing, words};
@@ -73,7 +73,7 @@ pub fn answer(rt: &HostRuntime, input: Input) -> Result<(), Trouble> {
             file: name,
             why: Why {
                 refusal,
-                full: "too few words for the answer",
+                wanted: Wanted::Verdict,
             },
         }),
     }

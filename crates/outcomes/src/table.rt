@@ -5,7 +5,7 @@ use crate::rows::Row;
 use cli::input::Input;
 use cli::shown;
 use cli::shown::Shown;
-use cli::troubles::{Trouble, Why};
+use cli::troubles::{Trouble, Wanted, Why};
 use fences::listing::Listing;
 use std::alloc::{AllocError, Global};
 use std::fmt::Display;
@@ -88,7 +88,7 @@ pub fn answer(rt: &HostRuntime, input: Input) -> Result<(), Trouble> {
             file: name,
             why: Why {
                 refusal,
-                full: "more outcomes than 4 MiB hold",
+                wanted: Wanted::Outcomes,
             },
         }),
     }
