@@ -1,8 +1,8 @@
 // Tests of what the programs share: numbers in lines, and what is shown of an outcome.
 use cli::lending::Lent;
 use cli::{numbers, shown};
-use fences::listing::Listed;
-use fences::looking::Looked;
+use fences::listing::Listing;
+use fences::looking::Verdict;
 use std::alloc::Global;
 use std::process::Abort;
 use std::test::Fail;
@@ -114,8 +114,16 @@ fn lends_memory(rt: HostRuntime) -> Result<(), Fail> {
     )?;
     let words = words::to_words(heap, &source)?;
     let mut lent = Lent::new(heap, 100, 65_536 + 128 * 101, 256)?;
-    assert!(rt; matches!(lent.outcomes(words.as_slice()), Listed::Outcomes(4, 45)));
-    assert!(rt; matches!(lent.look(words.as_slice()), Looked::Fences(8, 2)));
+    assert!(rt;
+        matches!(
+            lent.outcomes(words.as_slice()),
+            Ok(Listing {
+                outcomes: 4,
+                states: 45
+            })
+        )
+    );
+    assert!(rt; matches!(lent.look(words.as_slice()), Ok(Verdict::Fences(8, 2))));
     assert!(rt; lent.told(8, 4) == [0, 2, 1, 2].as_slice());
     assert!(rt; lent.told(252, 9).len() == 4);
     assert!(rt; lent.told(300, 9).is_empty());

@@ -1,6 +1,7 @@
 // The call with memory of its own. The words that it may write to are filled before with numbers that no answer has.
 use fences::looking::{Looked, look};
 use std::alloc::{AllocError, Global};
+use std::ops::RangeInclusive;
 
 #[derive(Drop)]
 pub struct Asked {
@@ -8,24 +9,14 @@ pub struct Asked {
     pub out: Vec<u32>,
 }
 
-// More than any word that is told.
-const FIRST: u32 = 1000;
-
-// Words that differ from each other, and from what is told.
-fn filled(heap: Global, room: u32) -> Result<Vec<u32>, AllocError> {
-    let mut out = Vec::new(heap);
-    for k in 0..room {
-        out.push(k.saturating_add(FIRST))?;
-    }
-    Ok(out)
+// Words that differ from each other, and from what is told: they are more than any word of that.
+fn filling() -> RangeInclusive<u32> {
+    1000..=u32::MAX
 }
 
 // How many words the call asks for, for so many states.
 pub fn enough(most: u32) -> usize {
-    (most as usize)
-        .saturating_add(1)
-        .saturating_mul(128)
-        .saturating_add(65_536)
+    65_536 + 128 * (most as usize + 1)
 }
 
 // The call with `room` words to write to and `lent` words lent.
@@ -36,7 +27,7 @@ pub fn ask(
     room: u32,
     lent: usize,
 ) -> Result<Asked, AllocError> {
-    let mut out = filled(heap, room)?;
+    let mut out: Vec<u32> = filling().take(room as usize).collect(heap)?;
     let mut work = vec![in heap; 7u32; lent]?;
     let looked = look(words, most, out.as_mut_slice(), work.as_mut_slice());
     Ok(Asked { looked, out })
@@ -44,12 +35,8 @@ pub fn ask(
 
 // Whether the words from `at` on are as they were filled.
 pub fn unchanged(out: &[u32], at: usize) -> bool {
-    let mut filled = FIRST;
-    for k in 0..out.len() {
-        if k >= at && out[k] != filled {
-            return false;
-        }
-        filled = filled.saturating_add(1);
-    }
-    true
+    out.iter()
+        .zip(filling())
+        .skip(at)
+        .all(|(word, filled)| *word == filled)
 }

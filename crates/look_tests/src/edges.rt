@@ -1,17 +1,11 @@
 // What is answered, and what is written, where words are short or states are many.
 use crate::asked::{ask, enough, unchanged};
 use crate::texts;
-use fences::looking::Looked;
-use std::alloc::Global;
+use crate::texts::words_of;
+use fences::looking::Verdict;
+use fences::refusals::Refusal;
 use std::test::Fail;
-use text::reading::parse;
-use text::words::to_words;
 use trials::known;
-
-fn words_of(heap: Global, text: &str) -> Result<Vec<u32>, Fail> {
-    let source = parse(heap, text)?;
-    Ok(to_words(heap, &source)?)
-}
 
 #[test]
 fn fewer_than_256_words_are_too_few_for_fences(rt: HostRuntime) -> Result<(), Fail> {
@@ -19,11 +13,11 @@ fn fewer_than_256_words_are_too_few_for_fences(rt: HostRuntime) -> Result<(), Fa
     let words = words_of(heap, texts::STORE_BUFFERING)?;
     for room in [0u32, 127, 255] {
         let got = ask(heap, words.as_slice(), 100, room, enough(100))?;
-        assert!(rt; matches!(got.looked, Looked::OutFull));
+        assert!(rt; matches!(got.looked, Err(Refusal::OutFull)));
         assert!(rt; unchanged(got.out.as_slice(), 0));
     }
     let got = ask(heap, words.as_slice(), 100, 256, enough(100))?;
-    assert!(rt; matches!(got.looked, Looked::Fences(8, 2)));
+    assert!(rt; matches!(got.looked, Ok(Verdict::Fences(8, 2))));
     assert!(rt; unchanged(got.out.as_slice(), 12));
     assert!(rt; !unchanged(got.out.as_slice(), 11));
     Ok(())
@@ -36,10 +30,10 @@ fn nothing_else_is_written(rt: HostRuntime) -> Result<(), Fail> {
     let plain = known::words_in(heap, known::MESSAGE_PASSING)?;
     for room in [0u32, 127, 255, 256] {
         let got = ask(heap, plain.as_slice(), 100, room, enough(100))?;
-        assert!(rt; matches!(got.looked, Looked::Plain));
+        assert!(rt; matches!(got.looked, Ok(Verdict::Plain)));
         assert!(rt; unchanged(got.out.as_slice(), 0));
         let got = ask(heap, &[2, 9], 100, room, enough(100))?;
-        assert!(rt; matches!(got.looked, Looked::NoProgram));
+        assert!(rt; matches!(got.looked, Err(Refusal::NoProgram)));
         assert!(rt; unchanged(got.out.as_slice(), 0));
     }
     Ok(())
@@ -52,7 +46,7 @@ fn few_words_lent(rt: HostRuntime) -> Result<(), Fail> {
     let words = words_of(heap, texts::STORE_BUFFERING)?;
     for most in [0u32, 44, 45] {
         let got = ask(heap, words.as_slice(), most, 256, enough(most))?;
-        assert!(rt; matches!(got.looked, Looked::Fences(8, 2)));
+        assert!(rt; matches!(got.looked, Ok(Verdict::Fences(8, 2))));
         let got = ask(
             heap,
             words.as_slice(),
@@ -60,7 +54,7 @@ fn few_words_lent(rt: HostRuntime) -> Result<(), Fail> {
             256,
             enough(most).saturating_sub(1),
         )?;
-        assert!(rt; matches!(got.looked, Looked::Few));
+        assert!(rt; matches!(got.looked, Err(Refusal::Few)));
         assert!(rt; unchanged(got.out.as_slice(), 0));
     }
     Ok(())
@@ -71,7 +65,7 @@ fn many_states_are_crowded(rt: HostRuntime) -> Result<(), Fail> {
     let heap = rt.alloc();
     let words = words_of(heap, texts::CROWDED)?;
     let got = ask(heap, words.as_slice(), 2000, 256, enough(2000))?;
-    assert!(rt; matches!(got.looked, Looked::Crowded));
+    assert!(rt; matches!(got.looked, Err(Refusal::Crowded)));
     assert!(rt; unchanged(got.out.as_slice(), 0));
     Ok(())
 }

@@ -1,4 +1,13 @@
 // The programs that are tried, in columns, but for those that `trials` has as words.
+use std::alloc::Global;
+use text::faults::Fault;
+use text::reading::parse;
+use text::words::to_words;
+
+// The words of a program in columns.
+pub(crate) fn words_of(heap: Global, text: &str) -> Result<Vec<u32>, Fault> {
+    Ok(to_words(heap, &parse(heap, text)?)?)
+}
 
 pub const STORE_BUFFERING: &str = "up | down
 r0 = 1 | r0 = 1

@@ -1,8 +1,9 @@
 // Programs whose answer is known.
 use crate::asked::{ask, enough, unchanged};
 use crate::texts;
+use crate::texts::words_of;
 use cli::fenced::fenced;
-use fences::looking::Looked;
+use fences::looking::Verdict;
 use program::words::from_words;
 use replay::making::replayed;
 use std::alloc::Global;
@@ -16,24 +17,19 @@ const MOST: u32 = 1000;
 
 fn is_plain(rt: &impl Abort, heap: Global, words: &[u32]) -> Result<(), Fail> {
     let got = ask(heap, words, MOST, 256, enough(MOST))?;
-    assert!(rt; matches!(got.looked, Looked::Plain));
+    assert!(rt; matches!(got.looked, Ok(Verdict::Plain)));
     assert!(rt; unchanged(got.out.as_slice(), 0));
     Ok(())
 }
 
 fn plain(rt: &impl Abort, heap: Global, text: &str) -> Result<(), Fail> {
-    let source = parse(heap, text)?;
-    is_plain(rt, heap, to_words(heap, &source)?.as_slice())
+    is_plain(rt, heap, words_of(heap, text)?.as_slice())
 }
 
 // The told run can be made, and ends with all done and nothing waiting.
 fn can_be_made(rt: &impl Abort, words: &[u32], told: &[u32]) -> Result<(), Fail> {
-    let Some(p) = from_words(words) else {
-        return Err(Fail::new("no program"));
-    };
-    let Some(run) = replayed(p, told) else {
-        return Err(Fail::new("a move can't be made"));
-    };
+    let p = from_words(words).ok_or("no program")?;
+    let run = replayed(p, told).ok_or("a move can't be made")?;
     assert!(rt; run.is_finished());
     Ok(())
 }
@@ -49,7 +45,7 @@ fn needs(
     let source = parse(heap, text)?;
     let words = to_words(heap, &source)?;
     let got = ask(heap, words.as_slice(), MOST, 256, enough(MOST))?;
-    let Looked::Fences(m, k) = got.looked else {
+    let Ok(Verdict::Fences(m, k)) = got.looked else {
         return Err(Fail::new("no fences"));
     };
     assert_eq!(rt; m, moves);
@@ -97,9 +93,7 @@ fn some_are_plain(rt: HostRuntime) -> Result<(), Fail> {
 }
 
 fn cannot_be_made(rt: &impl Abort, words: &[u32], told: &[u32]) -> Result<(), Fail> {
-    let Some(p) = from_words(words) else {
-        return Err(Fail::new("no program"));
-    };
+    let p = from_words(words).ok_or("no program")?;
     assert!(rt; replayed(p, told).is_none());
     Ok(())
 }

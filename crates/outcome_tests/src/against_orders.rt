@@ -1,6 +1,8 @@
 // Outcomes by the machine against outcomes by all orders, of programs made at random.
-use crate::listed::ask;
-use fences::listing::Listed;
+ghost use Rattle.std.specs.Prelude.{◌<◌};
+
+use crate::listed::{ask, width};
+use fences::listing::Listing;
 use generate::programs::{Limits, program_words};
 use generate::random::Random;
 use orders::events::Rule;
@@ -25,27 +27,32 @@ fn same_rows(
     count: usize,
     waiting: &Outcomes,
     once: &Outcomes,
-) -> Result<(), Fail> {
-    for k in 0..count {
-        let at = k.saturating_mul(width);
-        let end = at.saturating_add(width);
-        assert!(rt; at < end && end <= rows.len());
-        let outcome = rows[at + 1..end].to_vec(heap)?;
+) -> Result<(), Fail>
+    requires { 0 < width }
+{
+    assert!(rt; count <= rows.len() / width);
+    for row in rows.chunks_exact(width).take(count) {
+        let (bit, outcome) = row.split_first().ok_or("an empty row")?;
+        let outcome = outcome.to_vec(heap)?;
         assert!(rt; waiting.contains(&outcome));
-        assert!(rt; once.contains(&outcome) == (rows[at] == 1));
+        assert!(rt; once.contains(&outcome) == (*bit == 1));
     }
     Ok(())
 }
 
 fn agree(rt: &impl Abort, heap: Global, words: &[u32]) -> Result<(), Fail> {
-    let Some(p) = from_words(words) else {
-        return Err(Fail::new("no program"));
-    };
+    let p = from_words(words).ok_or("no program")?;
     let threads = threads_of(heap, &p)?;
     let waiting = outcomes_by(heap, Rule::Waiting, threads.as_slice())?;
     let once = outcomes_by(heap, Rule::AtOnce, threads.as_slice())?;
     let got = ask(heap, words, 4000, 700_000)?;
-    let Listed::Outcomes(count, _states) = got.listed else {
+    let Ok(
+        Listing {
+            outcomes: count,
+            ..
+        },
+    ) = got.listed
+    else {
         return Err(Fail::new("no outcomes"));
     };
     assert_eq!(rt; count, waiting.len());
@@ -53,7 +60,7 @@ fn agree(rt: &impl Abort, heap: Global, words: &[u32]) -> Result<(), Fail> {
         rt,
         heap,
         got.rows.as_slice(),
-        threads.len().saturating_mul(4).saturating_add(9),
+        width(threads.len()),
         count,
         &waiting,
         &once,

@@ -1,13 +1,9 @@
 // Fences before first lines: nothing of a thread waits there, so that one there is of no use.
-use fences::looking::{Looked, look};
+use fences::looking::{Verdict, look};
 use std::alloc::Global;
 use std::process::Abort;
 use std::test::Fail;
 use trials::known::*;
-
-// Store buffering with a fence before the first line of each thread.
-const FENCED_BEFORE_FIRST_LINES: &str =
-    "2 4 4 0 0 0 0 0 1 0 3 0 0 0 2 1 1 0 4 4 0 0 0 0 0 1 0 3 1 0 0 2 1 0 0";
 
 // The fewest fences of the program are these: thread and instruction of each.
 fn needs(rt: &impl Abort, heap: Global, text: &str, fences: &[u32]) -> Result<(), Fail> {
@@ -15,7 +11,7 @@ fn needs(rt: &impl Abort, heap: Global, text: &str, fences: &[u32]) -> Result<()
     let mut work = vec![in heap; 0u32; 65_536 + 128 * 1001]?;
     let mut out = [0u32; 256];
     let looked = look(words.as_slice(), 1000, &mut out, work.as_mut_slice());
-    let Looked::Fences(moves, count) = looked else {
+    let Ok(Verdict::Fences(moves, count)) = looked else {
         return Err(Fail::new("no fences"));
     };
     if moves > 64 || count > 32 {
@@ -31,5 +27,5 @@ fn a_fence_before_a_first_line_is_of_no_use(rt: HostRuntime) -> Result<(), Fail>
     // were it of use, the first list would be before both first lines
     needs(&rt, heap, STORE_BUFFERING, &[0, 2, 1, 2])?;
     // those that are there already spare none, and move the instructions on by one
-    needs(&rt, heap, FENCED_BEFORE_FIRST_LINES, &[0, 3, 1, 3])
+    needs(&rt, heap, FENCES_FIRST, &[0, 3, 1, 3])
 }

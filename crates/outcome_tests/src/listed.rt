@@ -1,4 +1,6 @@
 // The public call with memory of its own: how many outcomes there are with and without waiting stores, and the rows.
+ghost use Rattle.std.specs.Prelude.{◌≤◌};
+
 use fences::listing::{Listed, outcomes};
 use std::alloc::{AllocError, Global};
 
@@ -17,14 +19,17 @@ pub fn ask(heap: Global, words: &[u32], most: u32, lent: usize) -> Result<Answer
     Ok(Answer { listed, rows })
 }
 
+// How many words the row of an outcome of a program of so many threads takes.
+pub(crate) fn width(threads: usize) -> usize
+    ensures { 9 ≤ result }
+{
+    9 + 4 * threads.min(4)
+}
+
 // How many of the first `count` rows say that they also come out at once.
-pub fn at_once(rows: &[u32], width: usize, count: usize) -> usize {
-    let mut found = 0usize;
-    for k in 0..count {
-        let at = k.saturating_mul(width);
-        if let Some(bit) = rows.get(at) {
-            found = found.saturating_add(*bit as usize);
-        }
-    }
-    found
+pub fn at_once(rows: &[u32], threads: usize, count: usize) -> usize {
+    rows.chunks_exact(width(threads))
+        .take(count)
+        .filter(|row| matches!(**row, [1, ..]))
+        .count()
 }

@@ -1,6 +1,7 @@
 // Known programs: how many outcomes each has with and without waiting stores; and answers at the edges.
 use crate::listed::{ask, at_once};
-use fences::listing::{Listed, outcomes};
+use fences::listing::{Listing, outcomes};
+use fences::refusals::Refusal;
 use std::alloc::Global;
 use std::process::Abort;
 use std::test::Fail;
@@ -10,19 +11,18 @@ use trials::known::*;
 fn has(rt: &impl Abort, heap: Global, text: &str, waiting: usize, once: usize) -> Result<(), Fail> {
     let words = words_in(heap, text)?;
     let got = ask(heap, words.as_slice(), 1000, 200_000)?;
-    let Listed::Outcomes(count, _states) = got.listed else {
+    let Ok(
+        Listing {
+            outcomes: count,
+            ..
+        },
+    ) = got.listed
+    else {
         return Err(Fail::new("no outcomes"));
     };
-    let threads = words.as_slice().first().copied().unwrap_or(0) as usize;
+    let threads = words.first().copied().unwrap_or(0) as usize;
     assert_eq!(rt; count, waiting);
-    assert_eq!(rt;
-        at_once(
-            got.rows.as_slice(),
-            threads.saturating_mul(4).saturating_add(9),
-            count,
-        ),
-        once
-    );
+    assert_eq!(rt; at_once(got.rows.as_slice(), threads, count), once);
     Ok(())
 }
 
@@ -48,29 +48,50 @@ fn answers_at_the_edges(rt: HostRuntime) -> Result<(), Fail> {
     let words = words_in(heap, STORE_BUFFERING)?;
     // one word of lent memory short, and just enough
     let short = ask(heap, words.as_slice(), 2000, 65_536 + 128 * 2001 - 1)?;
-    assert!(rt; matches!(short.listed, Listed::Few));
+    assert!(rt; matches!(short.listed, Err(Refusal::Few)));
     let enough = ask(heap, words.as_slice(), 2000, 65_536 + 128 * 2001)?;
-    assert!(rt; matches!(enough.listed, Listed::Outcomes(4, _)));
+    assert!(rt; matches!(enough.listed, Ok(Listing { outcomes: 4, .. })));
     // exactly as many states as are allowed, and one more, which the lent memory holds too
     let all = ask(heap, words.as_slice(), 45, 65_536 + 128 * 46)?;
-    assert!(rt; matches!(all.listed, Listed::Outcomes(4, 45)));
+    assert!(rt;
+        matches!(
+            all.listed,
+            Ok(Listing {
+                outcomes: 4,
+                states: 45
+            })
+        )
+    );
     let more = ask(heap, words.as_slice(), 44, 65_536 + 128 * 45)?;
-    assert!(rt; matches!(more.listed, Listed::Outcomes(4, 45)));
-    assert!(rt; matches!(ask(heap, &[2, 9], 10, 100_000)?.listed, Listed::NoProgram));
+    assert!(rt;
+        matches!(
+            more.listed,
+            Ok(Listing {
+                outcomes: 4,
+                states: 45
+            })
+        )
+    );
+    assert!(rt;
+        matches!(
+            ask(heap, &[2, 9], 10, 100_000)?.listed,
+            Err(Refusal::NoProgram)
+        )
+    );
     // one word of out short, and just enough: 4 rows of 17 words
     let mut work = vec![in heap; 0u32; 100_000]?;
     let mut out = [5u32; 68];
     assert!(rt;
         matches!(
             outcomes(words.as_slice(), 100, &mut out[0..67], work.as_mut_slice()),
-            Listed::OutFull
+            Err(Refusal::OutFull)
         )
     );
     assert!(rt; out == [5u32; 68]);
     assert!(rt;
         matches!(
             outcomes(words.as_slice(), 100, &mut out[0..68], work.as_mut_slice()),
-            Listed::Outcomes(4, _)
+            Ok(Listing { outcomes: 4, .. })
         )
     );
     Ok(())
@@ -80,18 +101,11 @@ fn answers_at_the_edges(rt: HostRuntime) -> Result<(), Fail> {
 #[test]
 fn too_many_states_are_crowded(rt: HostRuntime) -> Result<(), Fail> {
     let heap = rt.alloc();
-    let mut words = Vec::new(heap);
-    words.push(4)?;
-    for _ in 0..4 {
-        words.push(8)?;
-        for place in 0..8u32 {
-            words.extend_from_slice(&[3, place, 0, 0])?;
-        }
-    }
+    let words = many_stores(heap)?;
     assert!(rt;
         matches!(
             ask(heap, words.as_slice(), 2000, 65_536 + 128 * 2001)?.listed,
-            Listed::Crowded
+            Err(Refusal::Crowded)
         )
     );
     Ok(())
