@@ -4,9 +4,8 @@ ghost use Rattle.program.specs.Meaning.{program};
 ghost use Rattle.fences.specs.Finding.{IsFound};
 ghost use Rattle.fences.specs.Answers.{LookedFound, LookedPost};
 
-use crate::fewest::fewest;
 use crate::finding::{Found, admitted, find_states};
-use crate::looks::{learn, look_at};
+use crate::looks::Base;
 use crate::refusals::Refusal;
 use crate::telling::{write_fences, write_moves};
 use once::marks::mark_at_once;
@@ -37,16 +36,23 @@ fn look_found(p: &Program, found: Found<'_>, out: &mut [u32]) -> Looked
     let (cost, rest) = rest.split_at_mut(n);
     let (from, clauses) = rest.split_at_mut(n);
     mark_at_once(p, edges, n, once, from);
-    let Some(bad) = look_at(p, 0, n, queue, edges, once, cost, from) else {
+    let base = Base {
+        p,
+        n,
+        queue,
+        edges,
+        once,
+    };
+    let Some(bad) = base.look_at(0, cost, from) else {
         return Ok(Verdict::Plain);
     };
     let mut told = [0u32; 64];
-    let (moves, _passed) = learn(p, 0, n, queue, edges, from, bad, &mut told);
+    let (moves, _passed) = base.learn(0, from, bad, &mut told);
     if out.len() < 256 {
         return Err(Refusal::OutFull);
     }
     let mut path = [0u32; 64];
-    let fences = fewest(p, n, queue, edges, once, cost, from, &mut path, clauses);
+    let fences = base.fewest(cost, from, &mut path, clauses);
     write_moves(p.count(), &told[0..moves], out);
     let count = write_fences(fences, out, moves);
     Ok(Verdict::Fences(moves, count))

@@ -10,12 +10,8 @@ use Rattle.fences.proofs.looking.look_found.Goals as goal
 pub returns-in_default : goal.returns-in_default
 returns-in_default c = (plain (program c.args.p.now) c.in_default.ensures, refl)
 
-pub learn-moves-requires : goal.learn-moves-requires
-learn-moves-requires c =
-    let f = c.split_at_mut-from.ensures.front_len in
-    let k1 = c.mark_at_once.auto.from in
-    let k2 = c.look_at.auto.from in
-    record { explored = c.requires.explored; kept = c.requires.kept; in_from = omega arith; bad = (c.look_at.new.cost, c.in-Some.ensures); room = refl }
+pub learn-moves-requires-clause-bad : goal.learn-moves-requires-clause-bad
+learn-moves-requires-clause-bad c = (c.look_at.new.cost, c.in-Some.ensures)
 
 pub returns-then-out-lt256 : goal.returns-then-out-lt256
 returns-then-out-lt256 c =

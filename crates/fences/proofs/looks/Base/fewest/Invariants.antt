@@ -2,7 +2,7 @@
 use Rattle.std.proofs.Common.{◌-◌, ◌^◌, ◌≤◌, length}
 use Rattle.program.specs.Meaning.{program}
 use Rattle.fences.specs.Searching.{LearntMasks, EarlierFail}
-use Rattle.fences.proofs.fewest.fewest.Given as goal
+use Rattle.fences.proofs.looks.Base.fewest.Given as goal
 
 abbrev pub invariant-lengths : goal.invariant-lengths
-invariant-lengths l = (l.known ≤ length l.clauses) × LearntMasks (program l.p) l.clauses l.known × EarlierFail (program l.p) l.bits (2 ^ 32 - 1)
+invariant-lengths l = (l.known ≤ length l.clauses) × LearntMasks (program l.self.p.now) l.clauses l.known × EarlierFail (program l.self.p.now) l.bits (2 ^ 32 - 1)

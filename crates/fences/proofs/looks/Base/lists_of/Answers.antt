@@ -4,11 +4,11 @@ use Rattle.hitting.specs.Post.{NextOrNone}
 use Rattle.program.specs.Meaning.{program}
 use Rattle.program.proofs.WriteWords.{program_ok}
 use Rattle.fences.proofs.SearchLaws.{learnt_slice, after_none, after_some, found_next, go_on, go_on_none, fails_turned, kept_learnt}
-use Rattle.fences.proofs.fewest.lists_of.Goals as goal
+use Rattle.fences.proofs.looks.Base.lists_of.Goals as goal
 
 pub returns-in_default : goal.returns-in_default
 returns-in_default c =
-    let p = program c.args.p.now in
+    let p = program c.args.self.now.p.now in
     let i = c.lists.invariant in
     let cs = take c.lists.known c.lists.clauses in
     let nx = subst (λ (z : ℕ). NextOrNone cs z c.args.bits c.lists.upto None) c.requires.among c.in_default.ensures in
@@ -20,7 +20,7 @@ returns-in_default c =
 
 pub returns-in_default-try_list : goal.returns-in_default-try_list
 returns-in_default-try_list c =
-    let p = program c.args.p.now in
+    let p = program c.args.self.now.p.now in
     let i = c.lists.invariant in
     let x = c.in-Some.x in
     let cs = take c.lists.known c.lists.clauses in
@@ -28,14 +28,14 @@ returns-in_default-try_list c =
     let b = nx.below in
     let u = i.3 in
     record {
-      round = found_next p cs c.args.bits c.lists.upto x (program_ok c.args.p.now) (omega arith) (learnt_slice p c.lists.clauses c.lists.known i.0 i.1) i.2 nx c.in_default-try_list.ensures;
+      round = found_next p cs c.args.bits c.lists.upto x (program_ok c.args.self.now.p.now) (omega arith) (learnt_slice p c.lists.clauses c.lists.known i.0 i.1) i.2 nx c.in_default-try_list.ensures;
       few = i.0;
       learnt = i.1;
     }
 
 pub returns-then-x-eq0 : goal.returns-then-x-eq0
 returns-then-x-eq0 c =
-    let p = program c.args.p.now in
+    let p = program c.args.self.now.p.now in
     let i = c.lists.invariant in
     let x = c.in-Some.x in
     let cs = take c.lists.known c.lists.clauses in
@@ -53,7 +53,7 @@ returns-then-x-eq0 c =
 
 pub lists-preserved : goal.lists-preserved
 lists-preserved c =
-    let p = program c.args.p.now in
+    let p = program c.args.self.now.p.now in
     let i = c.lists.invariant in
     let x = c.in-Some.x in
     let cs = take c.lists.known c.lists.clauses in
