@@ -17,7 +17,7 @@ const LONGEST: usize = 4096;
 pub struct Lines {
     heap: Global,
     reader: BufReader<Stdin>,
-    // how many lines came
+    // the number of the line that was asked for last
     number: u64,
 }
 

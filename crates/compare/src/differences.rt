@@ -120,12 +120,12 @@ pub fn compare(
     let first = by_states::ask(heap, lent, words)?;
     let program = program_of(heap, words)?;
     let second = second_of(heap, &first, &program)?;
-    counts.add_words(&second)?;
+    counts.add_words(&second);
     if let Some(threads) = &program {
-        counts.add_program(threads.as_slice())?;
+        counts.add_program(threads.as_slice());
     }
     if let Some(what) = first_difference(heap, &program, &first, &second)? {
-        counts.add(Kind::Differences)?;
+        counts.add(Kind::Differences);
         print(rt, what, words, &first, &second)?;
     }
     Ok(())

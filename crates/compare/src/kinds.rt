@@ -1,8 +1,6 @@
 // Counts by kind of what was compared: how often each kind of words came up.
 use crate::answers::Said;
 use program::instructions::{Instruction, Place};
-use std::alloc::{AllocError, Global};
-use std::collections::{BTreeMap, BTreeSet};
 use std::fmt;
 
 // What is counted. Where nothing else is said, it is a program that has this.
@@ -80,90 +78,86 @@ impl fmt::Display for Kind {
     }
 }
 
+// Whether an instruction before the `end`-th stores to the place.
 fn stores_to(code: &[Instruction], end: usize, place: Place) -> bool {
-    code.iter().take(end).any(
-        |i| matches!(*i, Instruction::Store(stored, _) if stored.0 == place.0),
-    )
+    code.iter().take(end).any(|i| matches!(*i, Instruction::Store(stored, _) if stored == place))
 }
 
-// Adds what a program has by one of its threads.
-fn add_thread(has: &mut BTreeSet<Kind>, code: &[Instruction]) -> Result<(), AllocError> {
-    if code.is_empty() {
-        has.insert(Kind::EmptyThread)?;
-    }
-    if code.len() == 8 {
-        has.insert(Kind::FullThread)?;
-    }
+// Whether a thread reads a place that it stored to before.
+fn rereads(code: &[Instruction]) -> bool {
     for (at, i) in code.iter().enumerate() {
-        match *i {
-            Instruction::Set(_, _) => {}
-            Instruction::Add(_, _, _) => {
-                has.insert(Kind::Sum)?;
-            }
-            Instruction::Fence => {
-                has.insert(Kind::OwnFence)?;
-            }
-            Instruction::Load(_, place) => {
-                has.insert(Kind::Place(place.0))?;
-                if stores_to(code, at, place) {
-                    has.insert(Kind::Reread)?;
-                }
-            }
-            Instruction::Store(place, _) => {
-                has.insert(Kind::Place(place.0))?;
-            }
+        if let Instruction::Load(_, place) = *i
+            && stores_to(code, at, place)
+        {
+            return true;
         }
     }
-    Ok(())
+    false
 }
 
-// How often each kind came up; none where it has no entry.
-#[derive(Drop)]
-pub struct Counts {
-    heap: Global,
-    by_kind: BTreeMap<Kind, u64>,
+// Whether an instruction is of this kind.
+fn is_of(i: Instruction, kind: Kind) -> bool {
+    match i {
+        Instruction::Set(_, _) => false,
+        Instruction::Add(_, _, _) => kind == Kind::Sum,
+        Instruction::Load(_, place) => kind == Kind::Place(place.0),
+        Instruction::Store(place, _) => kind == Kind::Place(place.0),
+        Instruction::Fence => kind == Kind::OwnFence,
+    }
 }
+
+// Whether a thread is of this kind, or an instruction of it.
+fn has(code: &[Instruction], kind: Kind) -> bool {
+    match kind {
+        Kind::EmptyThread => code.is_empty(),
+        Kind::FullThread => code.len() == 8,
+        Kind::Reread => rereads(code),
+        _ => code.iter().any(|i| is_of(*i, kind)),
+    }
+}
+
+// How often each kind came up, in the order of `KINDS`.
+#[derive(Clone, Copy)]
+pub struct Counts([u64; 26]);
 
 impl Counts {
-    pub fn new(heap: Global) -> Counts {
-        Counts {
-            heap,
-            by_kind: BTreeMap::new(heap),
-        }
+    pub fn new() -> Counts {
+        Counts([0; 26])
     }
 
     pub fn of(&self, kind: Kind) -> u64 {
-        self.by_kind.get(&kind).copied().unwrap_or(0)
+        KINDS
+            .iter()
+            .zip(self.0.iter())
+            .find(|(counted, _)| **counted == kind)
+            .map_or(0, |(_, count)| *count)
     }
 
-    pub fn add(&mut self, kind: Kind) -> Result<(), AllocError> {
-        let count = self.of(kind).saturating_add(1);
-        self.by_kind.insert(kind, count)?;
-        Ok(())
+    pub fn add(&mut self, kind: Kind) {
+        if let Some(at) = KINDS.iter().position(|counted| *counted == kind) {
+            self.0[at] = self.0[at].saturating_add(1);
+        }
     }
 
     // Counts words by what was said of them.
-    pub fn add_words(&mut self, said: &Said) -> Result<(), AllocError> {
-        self.add(Kind::Words)?;
+    pub fn add_words(&mut self, said: &Said) {
+        self.add(Kind::Words);
         match said {
             Said::NoProgram => self.add(Kind::NoProgram),
             Said::Crowded => self.add(Kind::Crowded),
             Said::Program(answer) => self.add(Kind::Fences(answer.fences.len().min(4))),
-            Said::Apart(_, _) => Ok(()),
+            Said::Apart(_, _) => {}
         }
     }
 
     // Counts a program by what it has.
-    pub fn add_program(&mut self, threads: &[Vec<Instruction>]) -> Result<(), AllocError> {
-        let mut has = BTreeSet::new(self.heap);
-        has.insert(Kind::Threads(threads.len()))?;
-        for code in threads {
-            add_thread(&mut has, code.as_slice())?;
+    pub fn add_program(&mut self, threads: &[Vec<Instruction>]) {
+        self.add(Kind::Threads(threads.len()));
+        for kind in KINDS {
+            if threads.iter().any(|code| has(code.as_slice(), kind)) {
+                self.add(kind);
+            }
         }
-        for kind in has.iter() {
-            self.add(*kind)?;
-        }
-        Ok(())
     }
 }
 

@@ -52,7 +52,7 @@ fn asked(rt: &HostRuntime) -> anyhow::Result<Request> {
 // The programs worked by hand, and one of too many states.
 fn compare_worked(rt: &HostRuntime, lent: &mut Lent) -> anyhow::Result<Counts> {
     let heap = rt.alloc();
-    let mut worked = Counts::new(heap);
+    let mut worked = Counts::new();
     for text in ALL {
         let words = words_in(heap, text)?;
         compare(rt, lent, words.as_slice(), &mut worked)?;
@@ -69,8 +69,8 @@ fn compare_random(
     request: Request,
 ) -> anyhow::Result<(Counts, Counts)> {
     let heap = rt.alloc();
-    let mut made = Counts::new(heap);
-    let mut broken = Counts::new(heap);
+    let mut made = Counts::new();
+    let mut broken = Counts::new();
     let mut random = Random::new(request.seed);
     for _ in 0..request.count {
         let words = program_words(heap, &mut random, LIMITS)?;

@@ -1,4 +1,4 @@
-// The programs that are tried, in columns, but for those that `trials` has as words.
+// The programs that are tried, in columns: `look` is asked of them as they are read, and their fences are put in as text.
 use std::alloc::Global;
 use text::faults::Fault;
 use text::reading::parse;
