@@ -6,7 +6,7 @@ use Rattle.model.specs.Code.{Prog}
 use Rattle.model.specs.Machine.{St}
 use Rattle.program.specs.declared.threads.Program.{Program}
 use Rattle.program.specs.Meaning.{program}
-use Rattle.explore.specs.Found.{Explored, Among, Crowded}
+use Rattle.explore.specs.Found.{Explored, Among}
 use Rattle.explore.proofs.Finding.{listed, length_listed, different, come_to, listed_among}
 use Rattle.fences.specs.Listing.{text}
 use Rattle.fences.specs.Rows.{rows_from}
@@ -51,10 +51,6 @@ rows_too_long p t count q g cost n k len ex e h =
 
     elim_lt : (a b : ℕ) → (b ≤ a → ⊥) → a < b
     elim_lt a b f = elim (cases_lt a b) [ inl l ↦ l | inr g ↦ absurd (f g) ]
-
--- more states than fit are more than were allowed
-pub crowded_too : (p : Prog) (limit m : ℕ) → m ≤ limit → Crowded p limit → Crowded p m
-crowded_too p limit m h c = let (q, a, d, l) = c in (q, a, d, omega arith)
 
 -- what is said of the program is said of the words
 listed_says : (s : List ℕ) (most : ℕ) (o o' : List ℕ) (p : Prog) (r : Listed) → Reads s p → ListedFound p o o' r → ListedSays s most o o' r

@@ -28,7 +28,7 @@ fn heading(heap: Global, columns: &[Shown]) -> Result<String, AllocError> {
     Ok(line)
 }
 
-// The line of an outcome, with a mark in front where it only comes out with waiting stores.
+// The line of an outcome, with a mark behind it where it only comes out with waiting stores.
 fn line(heap: Global, columns: &[Shown], row: &Row<'_>) -> Result<String, AllocError> {
     let mut line = String::new(heap);
     for column in columns {
