@@ -6,17 +6,19 @@ ghost use Rattle.std.specs.Iterator.{at_most};
 use crate::troubles::Trouble;
 use crate::{input, numbers};
 use std::alloc::Global;
-use std::io;
-use std::io::{BufRead, BufReader, Stdin};
+use std::io::{BufRead, BufReader, ErrorKind, Read, Stdin, Take};
 
 // More than any program's words take, with a blank between each two.
 const LONGEST: usize = 4096;
+
+// So far a line is read: one byte more, so that a longer one is told apart.
+const LIMIT: u64 = LONGEST as u64 + 1;
 
 // The words of each line in turn, or why a line is refused.
 #[derive(Drop)]
 pub struct Lines {
     heap: Global,
-    reader: BufReader<Stdin>,
+    reader: Take<BufReader<Stdin>>,
     // the number of the line that was asked for last
     number: u64,
 }
@@ -27,21 +29,9 @@ impl Lines {
         let reader = BufReader::new(rt.alloc(), rt.stdin()).map_err(|_e| Trouble::Memory)?;
         Ok(Lines {
             heap: rt.alloc(),
-            reader,
+            reader: reader.take(LIMIT),
             number: 0,
         })
-    }
-
-    // The next byte, if the input has not ended.
-    fn byte(&mut self) -> io::Result<Option<u8>>
-        ensures { self.new.number ≡ self.old.number }
-    {
-        let held = self.reader.fill_buf()?;
-        let byte = held.first().copied();
-        if byte.is_some() {
-            self.reader.consume(1);
-        }
-        Ok(byte)
     }
 
     // The next line without its end, if there is one.
@@ -49,19 +39,22 @@ impl Lines {
         ensures { self.new.number ≡ self.old.number }
     {
         let mut line = Vec::new(self.heap);
-        for _ in 0..LONGEST + 1 {
-            match self.byte() {
-                Ok(Some(b'\n')) => return Ok(Some(line)),
-                Ok(Some(b)) => line.push(b)?,
-                Ok(None) if line.is_empty() => return Ok(None),
-                Ok(None) => return Ok(Some(line)),
-                Err(error) => return Err(Trouble::Unreadable {
-                    file: input::name(self.heap, &None)?,
-                    error,
-                }),
-            }
+        self.reader.set_limit(LIMIT);
+        match self.reader.read_until(b'\n', &mut line) {
+            Ok(0) => return Ok(None),
+            Ok(_) => {}
+            Err(error) if error.kind() == ErrorKind::OutOfMemory => return Err(Trouble::Memory),
+            Err(error) => return Err(Trouble::Unreadable {
+                file: input::name(self.heap, &None)?,
+                error,
+            }),
         }
-        Err(Trouble::LongLine { line: self.number })
+        if line.last() == Some(&b'\n') {
+            line.pop();
+        } else if line.len() > LONGEST {
+            return Err(Trouble::LongLine { line: self.number });
+        }
+        Ok(Some(line))
     }
 
     // The words of the next line, if there is one.
