@@ -7,26 +7,17 @@ pub fn parse(heap: Global, line: u64, bytes: &[u8]) -> Result<Vec<u32>, Trouble>
     let mut words = Vec::new(heap);
     let mut word = None;
     for (k, byte) in bytes.iter().enumerate() {
+        let column = k + 1;
         match *byte {
             b @ b'0'..=b'9' => {
-                let more = with_digit(word, b - b'0').ok_or(Trouble::LargeNumber {
-                    line,
-                    column: k + 1,
-                })?;
-                word = Some(more);
+                let more = with_digit(word, b - b'0');
+                word = Some(more.ok_or(Trouble::LargeNumber { line, column })?);
             }
-            b' ' | b'\t' | b'\r' => {
-                push(&mut words, word)?;
-                word = None;
-            }
-            byte => return Err(Trouble::NoNumber {
-                line,
-                column: k + 1,
-                byte,
-            }),
+            b' ' | b'\t' | b'\r' => words.extend(word.take())?,
+            byte => return Err(Trouble::NoNumber { line, column, byte }),
         }
     }
-    push(&mut words, word)?;
+    words.extend(word)?;
     Ok(words)
 }
 
@@ -37,18 +28,11 @@ fn with_digit(word: Option<u32>, digit: u8) -> Option<u32> {
         .checked_add(u32::from(digit))
 }
 
-fn push(words: &mut Vec<u32>, word: Option<u32>) -> Result<(), AllocError> {
-    if let Some(word) = word {
-        words.push(word)?;
-    }
-    Ok(())
-}
-
 // Numbers in a line, with a blank between each two.
 pub fn line(heap: Global, words: &[u32]) -> Result<String, AllocError> {
     let mut text = String::new(heap);
-    for (k, word) in words.iter().enumerate() {
-        let blank = if k == 0 { "" } else { " " };
+    for word in words {
+        let blank = if text.is_empty() { "" } else { " " };
         write!(text, "{blank}{word}")?;
     }
     Ok(text)
