@@ -4,9 +4,9 @@ use std::alloc::{AllocError, Global};
 use text::printing;
 use text::source::{Source, Thread};
 
-const REGISTERS: u32 = 4;
+pub const REGISTERS: u32 = 4;
 
-const PLACES: u32 = 8;
+pub const PLACES: u32 = 8;
 
 // A value of an outcome: what it is called, and where it stands among all registers, thread by thread, and memory.
 #[derive(Drop)]

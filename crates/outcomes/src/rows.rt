@@ -2,6 +2,7 @@
 // its values, which are all registers, thread by thread, and memory.
 ghost use Rattle.std.specs.Prelude.{◌≤◌};
 
+use cli::shown::{PLACES, REGISTERS};
 use std::alloc::{AllocError, Global};
 
 // Ordered by its values.
@@ -24,11 +25,11 @@ fn row_of(words: &[u32]) -> Row<'_> {
     }
 }
 
-// How many words each outcome of a program of so many threads takes.
+// How many words each outcome of a program of so many threads takes: a bit, all registers, memory.
 fn width(threads: u32) -> usize
     ensures { 9 ≤ result }
 {
-    9 + 4 * (threads as usize).min(4)
+    1 + (REGISTERS * threads.min(4) + PLACES) as usize
 }
 
 // The first `count` outcomes that stand in `out`, sorted.
@@ -39,9 +40,7 @@ pub fn sorted(
     count: usize,
 ) -> Result<Vec<Row<'_>>, AllocError> {
     let mut rows = Vec::with_capacity(heap, count)?;
-    for words in out.chunks_exact(width(threads)).take(count) {
-        rows.push(row_of(words))?;
-    }
+    rows.extend(out.chunks_exact(width(threads)).take(count).map(row_of))?;
     rows.sort_unstable();
     Ok(rows)
 }
