@@ -1,5 +1,5 @@
 // The calls that a program asks, `look` and `outcomes`, with the memory that is lent to them.
-ghost use Rattle.std.specs.Prelude.{◌≡◌, take, drop, IfOk, vec_len};
+ghost use Rattle.std.specs.Prelude.{◌≡◌, ◌+◌, ◌*◌, take, drop, IfOk, vec_len};
 ghost use Rattle.fences.specs.Answers.{LookedPost};
 ghost use Rattle.fences.specs.Says.{ListedPost};
 
@@ -9,11 +9,18 @@ use std::alloc::{AllocError, Global};
 
 #[derive(Drop)]
 pub struct Lent {
-    // so many states are allowed at the least: the calls ask for 65,536 words, and 128 for each of them and one more
+    // so many states are allowed at the least
     states: u32,
     work: Vec<u32>,
     // what the last call told
     pub out: Vec<u32>,
+}
+
+// How many words the calls ask for, for so many states that are allowed at the least.
+pub fn work_for(states: u32) -> usize
+    ensures { result ≡ 65536 + 128 * (states + 1) }
+{
+    65_536 + 128 * (states as usize + 1)
 }
 
 impl Lent {

@@ -1,5 +1,5 @@
 // Tests of what the programs share: numbers in lines, and what is shown of an outcome.
-use cli::lending::Lent;
+use cli::lending::{Lent, work_for};
 use cli::{numbers, shown};
 use fences::listing::Listing;
 use fences::looking::Verdict;
@@ -113,7 +113,7 @@ fn lends_memory(rt: HostRuntime) -> Result<(), Fail> {
         "up | down\nr0 = 1 | r0 = 1\n[a] = r0 | [b] = r0\nr1 = [b] | r1 = [a]",
     )?;
     let words = words::to_words(heap, &source)?;
-    let mut lent = Lent::new(heap, 100, 65_536 + 128 * 101, 256)?;
+    let mut lent = Lent::new(heap, 100, work_for(100), 256)?;
     assert!(rt;
         matches!(
             lent.outcomes(words.as_slice()),

@@ -8,7 +8,7 @@ const WORK: usize = 950_000;
 // Enough for every answer: moves, and behind them thread and instruction for each fence.
 const OUT: usize = 256;
 
-// So many states are allowed at the least: the call asks for 65,536 words, and 128 for each state and one more.
+// So many states are allowed at the least: the most for which `WORK` is enough (`lending::work_for`).
 const STATES: u32 = 6_908;
 
 pub fn lent(heap: Global) -> Result<Lent, AllocError> {

@@ -14,11 +14,6 @@ fn filling() -> RangeInclusive<u32> {
     1000..=u32::MAX
 }
 
-// How many words the call asks for, for so many states.
-pub fn enough(most: u32) -> usize {
-    65_536 + 128 * (most as usize + 1)
-}
-
 // The call with `room` words to write to and `lent` words lent.
 pub fn ask(
     heap: Global,

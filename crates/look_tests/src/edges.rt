@@ -1,7 +1,8 @@
 // What is answered, and what is written, where words are short or states are many.
-use crate::asked::{ask, enough, unchanged};
+use crate::asked::{ask, unchanged};
 use crate::texts;
 use crate::texts::words_of;
+use cli::lending::work_for;
 use fences::looking::Verdict;
 use fences::refusals::Refusal;
 use std::test::Fail;
@@ -12,11 +13,11 @@ fn fewer_than_256_words_are_too_few_for_fences(rt: HostRuntime) -> Result<(), Fa
     let heap = rt.alloc();
     let words = words_of(heap, texts::STORE_BUFFERING)?;
     for room in [0u32, 127, 255] {
-        let got = ask(heap, words.as_slice(), 100, room, enough(100))?;
+        let got = ask(heap, words.as_slice(), 100, room, work_for(100))?;
         assert!(rt; matches!(got.looked, Err(Refusal::OutFull)));
         assert!(rt; unchanged(got.out.as_slice(), 0));
     }
-    let got = ask(heap, words.as_slice(), 100, 256, enough(100))?;
+    let got = ask(heap, words.as_slice(), 100, 256, work_for(100))?;
     assert!(rt; matches!(got.looked, Ok(Verdict::Fences(8, 2))));
     assert!(rt; unchanged(got.out.as_slice(), 12));
     assert!(rt; !unchanged(got.out.as_slice(), 11));
@@ -29,10 +30,10 @@ fn nothing_else_is_written(rt: HostRuntime) -> Result<(), Fail> {
     let heap = rt.alloc();
     let plain = known::words_in(heap, known::MESSAGE_PASSING)?;
     for room in [0u32, 127, 255, 256] {
-        let got = ask(heap, plain.as_slice(), 100, room, enough(100))?;
+        let got = ask(heap, plain.as_slice(), 100, room, work_for(100))?;
         assert!(rt; matches!(got.looked, Ok(Verdict::Plain)));
         assert!(rt; unchanged(got.out.as_slice(), 0));
-        let got = ask(heap, &[2, 9], 100, room, enough(100))?;
+        let got = ask(heap, &[2, 9], 100, room, work_for(100))?;
         assert!(rt; matches!(got.looked, Err(Refusal::NoProgram)));
         assert!(rt; unchanged(got.out.as_slice(), 0));
     }
@@ -45,14 +46,14 @@ fn few_words_lent(rt: HostRuntime) -> Result<(), Fail> {
     let heap = rt.alloc();
     let words = words_of(heap, texts::STORE_BUFFERING)?;
     for most in [0u32, 44, 45] {
-        let got = ask(heap, words.as_slice(), most, 256, enough(most))?;
+        let got = ask(heap, words.as_slice(), most, 256, work_for(most))?;
         assert!(rt; matches!(got.looked, Ok(Verdict::Fences(8, 2))));
         let got = ask(
             heap,
             words.as_slice(),
             most,
             256,
-            enough(most).saturating_sub(1),
+            work_for(most).saturating_sub(1),
         )?;
         assert!(rt; matches!(got.looked, Err(Refusal::Few)));
         assert!(rt; unchanged(got.out.as_slice(), 0));
@@ -64,7 +65,7 @@ fn few_words_lent(rt: HostRuntime) -> Result<(), Fail> {
 fn many_states_are_crowded(rt: HostRuntime) -> Result<(), Fail> {
     let heap = rt.alloc();
     let words = words_of(heap, texts::CROWDED)?;
-    let got = ask(heap, words.as_slice(), 2000, 256, enough(2000))?;
+    let got = ask(heap, words.as_slice(), 2000, 256, work_for(2000))?;
     assert!(rt; matches!(got.looked, Err(Refusal::Crowded)));
     assert!(rt; unchanged(got.out.as_slice(), 0));
     Ok(())

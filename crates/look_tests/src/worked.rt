@@ -1,8 +1,9 @@
 // Programs whose answer is known.
-use crate::asked::{ask, enough, unchanged};
+use crate::asked::{ask, unchanged};
 use crate::texts;
 use crate::texts::words_of;
 use cli::fenced::fenced;
+use cli::lending::work_for;
 use fences::looking::Verdict;
 use program::words::from_words;
 use replay::making::replayed;
@@ -16,7 +17,7 @@ use trials::known;
 const MOST: u32 = 1000;
 
 fn is_plain(rt: &impl Abort, heap: Global, words: &[u32]) -> Result<(), Fail> {
-    let got = ask(heap, words, MOST, 256, enough(MOST))?;
+    let got = ask(heap, words, MOST, 256, work_for(MOST))?;
     assert!(rt; matches!(got.looked, Ok(Verdict::Plain)));
     assert!(rt; unchanged(got.out.as_slice(), 0));
     Ok(())
@@ -44,7 +45,7 @@ fn needs(
 ) -> Result<(), Fail> {
     let source = parse(heap, text)?;
     let words = to_words(heap, &source)?;
-    let got = ask(heap, words.as_slice(), MOST, 256, enough(MOST))?;
+    let got = ask(heap, words.as_slice(), MOST, 256, work_for(MOST))?;
     let Ok(Verdict::Fences(m, k)) = got.looked else {
         return Err(Fail::new("no fences"));
     };

@@ -7,7 +7,7 @@ const WORK: usize = 880_000;
 
 const OUT: usize = 80_000;
 
-// So many states are allowed at the least: the call asks for 65,536 words, and 128 for each state and one more.
+// So many states are allowed at the least: the most for which `WORK` is enough (`lending::work_for`).
 const STATES: u32 = 6_362;
 
 pub fn lent(heap: Global) -> Result<Lent, AllocError> {
