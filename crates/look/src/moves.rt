@@ -59,7 +59,8 @@ impl Names<'_> {
     }
 }
 
-// Adds a cell, with a blank before it where it is not the first, and the column's end behind it.
+// Adds a cell, with a blank before it where it is not the first, and the column's end behind it. A cell of an outcome stands
+// at the right, with no such end: as one function they would take all that parts them as parameters.
 fn push_cell(line: &mut String, cell: &str, width: usize) -> Result<(), AllocError> {
     let blank = if line.is_empty() { "" } else { " " };
     write!(line, "{blank}{cell:<width$} |")

@@ -12,7 +12,8 @@ use std::fmt::Display;
 use text::source::Source;
 use text::words;
 
-// Adds a cell as wide as its title, two blanks before it.
+// Adds a cell as wide as its title, two blanks before it. A cell of a run stands at the left, with the column's end behind it:
+// as one function they would take all that parts them as parameters.
 fn push_cell<T: Display + Drop>(line: &mut String, cell: T, title: &str) -> Result<(), AllocError> {
     let width = title.len();
     write!(line, "  {cell:>width$}")
