@@ -27,6 +27,7 @@ the fewest fences with which the program is plain; and the program with them in.
 
 docs/FORMAT.md says how programs are written.";
 
+// Both programs have this: one function for both would write the contracts of `running::run` a second time.
 fn run(rt: &HostRuntime) -> Result<(), Trouble> {
     running::run(
         rt,

@@ -36,6 +36,7 @@ fn answer_one(rt: &HostRuntime, lent: &mut Lent, words: &[u32]) -> Result<(), Tr
 }
 
 // Answers for each line in turn, up to the end or to the first line that is refused.
+// Both programs have this loop: one function for both would take what answers a line, and be longer by that one's contract.
 pub fn answer(rt: &HostRuntime) -> Result<(), Trouble> {
     let mut lent = lent(rt.alloc())?;
     for words in Lines::new(rt)? {
