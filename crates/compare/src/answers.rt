@@ -6,12 +6,11 @@ use orders::threads::Spot;
 use std::alloc::{AllocError, Global};
 
 // Of a program: its outcomes, sorted, a row each (1 if it also comes out at once, else 0; all registers, thread by thread;
-// memory); whether it is plain; and the fewest fences, none if it is plain.
+// memory); and the fewest fences, if it is not plain.
 #[derive(Drop)]
 pub struct Answer {
     pub rows: Vec<Vec<u32>>,
-    pub plain: bool,
-    pub fences: Vec<Spot>,
+    pub fences: Option<Vec<Spot>>,
 }
 
 #[derive(Drop)]
@@ -39,14 +38,15 @@ fn listed_name(heap: Global, listed: Listed) -> Result<String, AllocError> {
 }
 
 fn print_answer(rt: &HostRuntime, answer: &Answer) -> anyhow::Result<()> {
-    rt.println(if answer.plain {
-        "    plain"
-    } else {
-        "    not plain"
-    })?;
-    for spot in answer.fences.as_slice() {
-        let Spot { thread, index } = *spot;
-        println!(rt; "    fence: thread {thread}, instruction {index}")?;
+    match &answer.fences {
+        None => rt.println("    plain")?,
+        Some(fences) => {
+            rt.println("    not plain")?;
+            for spot in fences.as_slice() {
+                let Spot { thread, index } = *spot;
+                println!(rt; "    fence: thread {thread}, instruction {index}")?;
+            }
+        }
     }
     for row in answer.rows.as_slice() {
         let row = numbers::line(rt.alloc(), row.as_slice())?;

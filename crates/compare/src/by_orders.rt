@@ -23,12 +23,14 @@ fn rows(heap: Global, waiting: &Outcomes, at_once: &Outcomes) -> Result<Vec<Vec<
 pub fn ask(heap: Global, threads: &[Vec<Instruction>]) -> Result<Answer, AllocError> {
     let waiting = outcomes_by(heap, Rule::Waiting, threads)?;
     let at_once = outcomes_by(heap, Rule::AtOnce, threads)?;
-    // where no list worked none would be told, which the other answer never says of a program that is not plain
-    let found = fewest_fences(heap, threads)?;
-    let fences = found.map_or(Vec::new(heap), |found| found.spots);
+    let fences = if waiting.is_subset(&at_once) {
+        None
+    } else {
+        // where no list worked it is an empty one, which the other answer never tells of a program that is not plain
+        Some(fewest_fences(heap, threads)?.map_or(Vec::new(heap), |found| found.spots))
+    };
     Ok(Answer {
         rows: rows(heap, &waiting, &at_once)?,
-        plain: waiting.is_subset(&at_once),
         fences,
     })
 }

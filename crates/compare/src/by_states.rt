@@ -60,18 +60,19 @@ fn spots(heap: Global, words: &[u32]) -> Result<Vec<Spot>, AllocError> {
 // What the two calls say of the words.
 pub fn ask(heap: Global, lent: &mut Lent, words: &[u32]) -> Result<First, AllocError> {
     let looked = lent.look(words);
-    let (told, count) = match looked {
-        Ok(Verdict::Fences(told, fences)) => (told, fences.saturating_mul(2)),
-        _ => (0, 0),
+    // read before the second call, which writes to the same words
+    let (moves, fences) = match looked {
+        Ok(Verdict::Fences(told, count)) => (
+            lent.told(0, told).to_vec(heap)?,
+            Some(spots(heap, lent.told(told, count.saturating_mul(2)))?),
+        ),
+        _ => (Vec::new(heap), None),
     };
-    let moves = lent.told(0, told).to_vec(heap)?;
-    let fences = spots(heap, lent.told(told, count))?;
     let said = match (looked, lent.outcomes(words)) {
         (Err(Refusal::NoProgram), Err(Refusal::NoProgram)) => Said::NoProgram,
         (Err(Refusal::Crowded), Err(Refusal::Crowded)) => Said::Crowded,
-        (Ok(verdict), Ok(listing)) => Said::Program(Answer {
+        (Ok(_), Ok(listing)) => Said::Program(Answer {
             rows: rows(heap, lent.out.as_slice(), words, listing.outcomes)?,
-            plain: verdict == Verdict::Plain,
             fences,
         }),
         (looked, listed) => Said::Apart(looked, listed),

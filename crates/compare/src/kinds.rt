@@ -145,7 +145,10 @@ impl Counts {
         match said {
             Said::NoProgram => self.add(Kind::NoProgram),
             Said::Crowded => self.add(Kind::Crowded),
-            Said::Program(answer) => self.add(Kind::Fences(answer.fences.len().min(4))),
+            Said::Program(answer) => {
+                let fences = answer.fences.as_ref().map_or(0, |fences| fences.len());
+                self.add(Kind::Fences(fences.min(4)));
+            }
             Said::Apart(_, _) => {}
         }
     }

@@ -5,23 +5,38 @@ use orders::numbers::outcome_of;
 use orders::threads::Spot;
 use program::instructions::Instruction;
 use std::alloc::{AllocError, Global};
-use std::fmt;
+use thiserror::Error;
 
-// What is wrong with a told run.
-#[derive(Clone, Copy, PartialEq, Eq, Debug)]
+// What is wrong with a told run; or that memory was refused, so that it is not known.
+#[derive(Debug, Drop, Error)]
 pub enum Fault {
+    #[error("a move can't be made, or some are missing")]
     Moves,
+    #[error("it lacks events, or they are in no order that is allowed")]
     Order,
+    #[error("its outcome comes out at once, too")]
     Outcome,
+    #[error(transparent)]
+    Memory(#[from(alloc)] AllocError),
 }
 
-impl fmt::Display for Fault {
-    fn fmt<W: fmt::Write>(&self, f: &mut fmt::Formatter<W>) -> fmt::Result {
-        f.write_str(match *self {
-            Fault::Moves => "a move can't be made, or some are missing",
-            Fault::Order => "it lacks events, or they are in no order that is allowed",
-            Fault::Outcome => "its outcome comes out at once, too",
-        })
+// A move, by the number of its thread.
+#[derive(Clone, Copy)]
+enum Move {
+    // the thread's next instruction
+    Next(usize),
+    // the thread's oldest store going to memory
+    Out(usize),
+}
+
+impl Move {
+    // The move that a told number is: a thread's number for its instruction and 4 more for its oldest store.
+    fn told(m: u32) -> Move {
+        if m < 4 {
+            Move::Next(m as usize)
+        } else {
+            Move::Out(m as usize - 4)
+        }
     }
 }
 
@@ -35,6 +50,15 @@ struct Replay<'a> {
 }
 
 impl<'a> Replay<'a> {
+    fn new(heap: Global, threads: &'a [Vec<Instruction>]) -> Result<Replay<'a>, AllocError> {
+        Ok(Replay {
+            threads,
+            events: events_of(heap, threads)?,
+            done: vec![in heap; 0usize; threads.len()]?,
+            order: Vec::new(heap),
+        })
+    }
+
     // The event at a spot, if its instruction reads.
     fn read_at(&self, spot: Spot) -> Option<Event> {
         self.events
@@ -51,40 +75,36 @@ impl<'a> Replay<'a> {
             .copied()
     }
 
-    // A thread does its next instruction. Whether it has one.
-    fn do_next(&mut self, thread: usize) -> Result<bool, AllocError> {
-        let (Some(code), Some(done)) = (self.threads.get(thread), self.done.get_mut(thread)) else {
-            return Ok(false);
-        };
+    // A thread does its next instruction, if it has one.
+    fn do_next(&mut self, thread: usize) -> Result<(), Fault> {
+        let code = self.threads.get(thread).ok_or(Fault::Moves)?;
+        let done = self.done.get_mut(thread).ok_or(Fault::Moves)?;
         let index = *done;
         if index >= code.len() {
-            return Ok(false);
+            return Err(Fault::Moves);
         }
         *done = index + 1;
         if let Some(e) = self.read_at(Spot { thread, index }) {
             self.order.push(e)?;
         }
-        Ok(true)
+        Ok(())
     }
 
-    // A thread's oldest store goes to memory. Whether there is one whose instruction is done.
-    fn let_out(&mut self, thread: usize) -> Result<bool, AllocError> {
-        let done = self.done.get(thread).copied().unwrap_or(0);
-        match self.oldest_write(thread) {
-            Some(e) if e.spot.index < done => {
-                self.order.push(e)?;
-                Ok(true)
-            }
-            _ => Ok(false),
-        }
+    // A thread's oldest store goes to memory, if there is one whose instruction is done.
+    fn let_out(&mut self, thread: usize) -> Result<(), Fault> {
+        let done = self.done.get(thread).copied().ok_or(Fault::Moves)?;
+        let e = self
+            .oldest_write(thread)
+            .filter(|e| e.spot.index < done)
+            .ok_or(Fault::Moves)?;
+        self.order.push(e)?;
+        Ok(())
     }
 
-    // A move, a thread's number for its instruction and 4 more for its oldest store. Whether it can be made.
-    fn make(&mut self, m: u32) -> Result<bool, AllocError> {
-        if m < 4 {
-            self.do_next(m as usize)
-        } else {
-            self.let_out(m as usize - 4)
+    fn make(&mut self, m: Move) -> Result<(), Fault> {
+        match m {
+            Move::Next(thread) => self.do_next(thread),
+            Move::Out(thread) => self.let_out(thread),
         }
     }
 
@@ -95,64 +115,45 @@ impl<'a> Replay<'a> {
             .zip(self.done.iter())
             .all(|(code, done)| *done >= code.len())
     }
-}
 
-// The order that the moves are; if each can be made and all instructions are done at the end.
-fn order_of(
-    heap: Global,
-    threads: &[Vec<Instruction>],
-    moves: &[u32],
-) -> Result<Option<Vec<Event>>, AllocError> {
-    let mut replay = Replay {
-        threads,
-        events: events_of(heap, threads)?,
-        done: vec![in heap; 0usize; threads.len()]?,
-        order: Vec::new(heap),
-    };
-    for m in moves {
-        if !replay.make(*m)? {
-            return Ok(None);
-        }
+    // All events stand in the order, none twice, and as total store order allows.
+    fn is_allowed(&self) -> bool {
+        let order = self.order.as_slice();
+        order.len() == self.events.len()
+            && self.events.iter().all(|e| stands_in(order, e))
+            && order.iter().enumerate().all(|(at, later)| {
+                order
+                    .iter()
+                    .take(at)
+                    .all(|earlier| !must_precede(Rule::Waiting, later, earlier))
+            })
     }
-    if !replay.is_finished() {
-        return Ok(None);
-    }
-    let Replay { order, .. } = replay;
-    Ok(Some(order))
 }
 
-// All events stand in the order, none twice, and as total store order allows.
-fn is_allowed(events: &[Event], order: &[Event]) -> bool {
-    order.len() == events.len()
-        && events.iter().all(|e| stands_in(order, e))
-        && order.iter().enumerate().all(|(at, later)| {
-            order
-                .iter()
-                .take(at)
-                .all(|earlier| !must_precede(Rule::Waiting, later, earlier))
-        })
-}
-
-// What is wrong with a told run, if anything is: `rows` are the program's outcomes by orders.
-pub fn fault_of(
+// Makes a told run again, to its end, and compares what it ends with: `rows` are the program's outcomes by orders.
+pub fn check(
     heap: Global,
     threads: &[Vec<Instruction>],
     moves: &[u32],
     rows: &[Vec<u32>],
-) -> Result<Option<Fault>, AllocError> {
-    let Some(order) = order_of(heap, threads, moves)? else {
-        return Ok(Some(Fault::Moves));
-    };
-    let events = events_of(heap, threads)?;
-    if !is_allowed(events.as_slice(), order.as_slice()) {
-        return Ok(Some(Fault::Order));
+) -> Result<(), Fault> {
+    let mut replay = Replay::new(heap, threads)?;
+    for m in moves {
+        replay.make(Move::told(*m))?;
     }
-    let outcome = outcome_of(heap, threads, order.as_slice())?;
+    if !replay.is_finished() {
+        return Err(Fault::Moves);
+    }
+    if !replay.is_allowed() {
+        return Err(Fault::Order);
+    }
+    let outcome = outcome_of(heap, threads, replay.order.as_slice())?;
     // a row that begins with 0 is an outcome that does not come out at once
     let mut only_waiting = vec![in heap; 0u32]?;
     only_waiting.extend_from_slice(outcome.as_slice())?;
     if rows.contains(&only_waiting) {
-        return Ok(None);
+        Ok(())
+    } else {
+        Err(Fault::Outcome)
     }
-    Ok(Some(Fault::Outcome))
 }

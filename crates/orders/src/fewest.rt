@@ -68,7 +68,7 @@ fn works(task: &Task, tried: &mut Fewest) -> Result<bool, AllocError>
 }
 
 // Tries all lists that begin with this one and have `more` of these spots behind it, those with the first spot first;
-// stops at the first list that works.
+// stops at the first list that works, and says whether there is one. It is no error: it is what is looked for.
 fn try_longer(
     task: &Task,
     spots: &[Spot],

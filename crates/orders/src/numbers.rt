@@ -1,17 +1,15 @@
 // What a memory order makes of a program: the number that each event reads or writes, and the registers and the memory
 // at the end. Which orders there are is not said here.
-ghost use Rattle.std.specs.Prelude.{◌≡◌, ◌+◌, ◌*◌, length, IfOk, vec_len, slice_index, slice_set};
+ghost use Rattle.std.specs.Prelude.{◌≡◌, ◌+◌, ◌*◌, length, IfOk, vec_len, slice_set};
 
 use crate::events::{Event, older};
 use crate::threads::Spot;
-use program::instructions::Instruction;
+use program::instructions::{Instruction, Register};
 use std::alloc::{AllocError, Global};
 
-// The number in a cell; 0 past the end.
-fn cell(cells: &[u32], i: u32) -> u32
-    ensures { result ≡ slice_index cells.now i }
-{
-    cells.get(i as usize).copied().unwrap_or(0)
+// The number in a register, if there is one of this name.
+fn number_in(registers: &[u32], r: Register) -> Option<u32> {
+    registers.get(r.0 as usize).copied()
 }
 
 // A number into a cell; nothing changes past the end. By its index: through `get_mut` what it ensures is not proved.
@@ -30,26 +28,27 @@ fn seen_by(read: &Event, at: usize, order: &[Event]) -> Option<Event> {
         .iter()
         .enumerate()
         .rev()
-        .find(|(k, w)| w.write && w.place.0 == read.place.0 && (*k < at || older(w, read)))
+        .find(|(k, w)| w.write && w.place == read.place && (*k < at || older(w, read)))
         .map(|(_, w)| *w)
 }
 
-// A program under a memory order, and the numbers that the first events of the order read or write.
+// A program under a memory order, and the numbers that the first events of the order read or write: none where a write
+// is of a thread or a register that is not there.
 #[derive(Drop)]
 struct Known<'a> {
     threads: &'a [Vec<Instruction>],
     order: &'a [Event],
-    numbers: Vec<u32>,
+    numbers: Vec<Option<u32>>,
 }
 
 impl<'a> Known<'a> {
-    // The number of the event at a spot; 0 if it is not known.
-    fn number_of(&self, spot: Spot) -> u32 {
+    // The number of the event at a spot, if it is known.
+    fn number_of(&self, spot: Spot) -> Option<u32> {
         self.order
             .iter()
             .zip(self.numbers.iter())
             .find(|(e, _)| e.spot == spot)
-            .map_or(0, |(_, number)| *number)
+            .and_then(|(_, number)| *number)
     }
 
     // The registers of a thread run by itself, before its instruction `end`; loads take the numbers that are known.
@@ -59,14 +58,18 @@ impl<'a> Known<'a> {
             match *instruction {
                 Instruction::Set(r, n) => put(&mut registers, r.0, n),
                 Instruction::Add(r, a, b) => {
-                    let sum = cell(&registers, a.0).wrapping_add(cell(&registers, b.0)) % 16;
-                    put(&mut registers, r.0, sum);
+                    if let (Some(a), Some(b)) = (
+                        number_in(&registers, a),
+                        number_in(&registers, b),
+                    ) {
+                        put(&mut registers, r.0, a.wrapping_add(b) % 16);
+                    }
                 }
-                Instruction::Load(r, _) => put(
-                    &mut registers,
-                    r.0,
-                    self.number_of(Spot { thread, index }),
-                ),
+                Instruction::Load(r, _) => {
+                    if let Some(number) = self.number_of(Spot { thread, index }) {
+                        put(&mut registers, r.0, number);
+                    }
+                }
                 Instruction::Store(_, _) | Instruction::Fence => {}
             }
         }
@@ -75,31 +78,31 @@ impl<'a> Known<'a> {
 
     // The number that a write writes, by running its thread up to it. The reads before it in its thread are known by
     // then: they come before it in every order, and before every read that sees it.
-    fn written(&self, w: &Event) -> u32 {
+    fn written(&self, w: &Event) -> Option<u32> {
         let Spot { thread, index } = w.spot;
-        self.threads.get(thread).map_or(
-            0,
-            |code| cell(
-                &self.registers_at(code.as_slice(), thread, index),
-                w.register.0,
-            ),
+        let code = self.threads.get(thread)?;
+        number_in(
+            &self.registers_at(code.as_slice(), thread, index),
+            w.register,
         )
     }
 
-    // What the `at`-th event of the order reads or writes.
-    fn number_at(&self, at: usize, e: &Event) -> u32 {
+    // What the `at`-th event of the order reads or writes. Before the first write, memory holds 0.
+    fn number_at(&self, at: usize, e: &Event) -> Option<u32> {
         if e.write {
             return self.written(e);
         }
-        seen_by(e, at, self.order).map_or(0, |w| self.written(&w))
+        seen_by(e, at, self.order).map_or(Some(0), |w| self.written(&w))
     }
 
     // Memory after the writes, done in this order.
     fn memory(&self) -> [u32; 8] {
         let mut memory = [0; 8];
         for (e, number) in self.order.iter().zip(self.numbers.iter()) {
-            if e.write {
-                put(&mut memory, e.place.0, *number);
+            if let Some(number) = *number
+                && e.write
+            {
+                put(&mut memory, e.place.0, number);
             }
         }
         memory

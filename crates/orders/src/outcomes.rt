@@ -1,12 +1,13 @@
 // All outcomes of a program: every order that a rule allows, made one by one, and what comes out of it. What an order
 // makes of the program is said elsewhere.
-ghost use Rattle.std.specs.Prelude.{◌≡◌, vec_len, OnOk};
+ghost use Rattle.std.specs.Prelude.{◌≡◌, vec_len};
 
 use crate::events::{Event, Rule, events_of, must_precede, stands_in};
 use crate::numbers::outcome_of;
 use program::instructions::Instruction;
 use std::alloc::{AllocError, Global};
 use std::collections::BTreeSet;
+use thiserror::Error;
 
 // An outcome is all registers, thread by thread, and then memory.
 pub type Outcomes = BTreeSet<Vec<u32>>;
@@ -30,14 +31,27 @@ pub struct Found {
     pub orders: u64,
 }
 
+// Why orders are made no further: there are outcomes enough, or memory was refused.
+#[derive(Debug, Drop, Error)]
+enum Stop {
+    #[error("enough")]
+    Enough,
+    #[error(transparent)]
+    Memory(#[from(alloc)] AllocError),
+}
+
 impl Found {
-    // Adds an outcome, and says whether to go on.
-    fn note(&mut self, task: &Task, outcome: Vec<u32>) -> Result<bool, AllocError> {
+    // Adds an outcome.
+    fn note(&mut self, task: &Task, outcome: Vec<u32>) -> Result<(), Stop> {
         self.orders = self.orders.saturating_add(1);
         if !task.known.contains(&outcome) {
             self.outcomes.insert(outcome)?;
         }
-        Ok(self.outcomes.len() < task.most)
+        if self.outcomes.len() < task.most {
+            Ok(())
+        } else {
+            Err(Stop::Enough)
+        }
     }
 }
 
@@ -50,10 +64,10 @@ fn may_come(task: &Task, order: &[Event], e: &Event) -> bool {
             .all(|a| !must_precede(task.rule, a, e) || stands_in(order, a))
 }
 
-// Goes through all orders that begin with this one, and says whether to go on. Of the events that may come next the last
-// is taken first, since a read that passes a write gives something new more often.
-fn extend(task: &Task, order: &mut Vec<Event>, found: &mut Found) -> Result<bool, AllocError>
-    ensures { OnOk result (vec_len order.new ≡ vec_len order.old) }
+// Goes through all orders that begin with this one. Of the events that may come next the last is taken first, since a read
+// that passes a write gives something new more often.
+fn extend(task: &Task, order: &mut Vec<Event>, found: &mut Found) -> Result<(), Stop>
+    ensures { vec_len order.new ≡ vec_len order.old }
 {
     if order.len() >= task.events.len() {
         let outcome = outcome_of(task.heap, task.threads, order.as_slice())?;
@@ -62,14 +76,13 @@ fn extend(task: &Task, order: &mut Vec<Event>, found: &mut Found) -> Result<bool
     for e in task.events.iter().rev() {
         if may_come(task, order.as_slice(), e) {
             order.push(*e)?;
-            let go_on = extend(task, order, found)?;
+            let extended = extend(task, order, found);
+            // also where it stopped, so that the order is as it was
             order.pop();
-            if !go_on {
-                return Ok(false);
-            }
+            extended?;
         }
     }
-    Ok(true)
+    Ok(())
 }
 
 // The outcomes by a rule that are not among the known; only `most` of them if there are more.
@@ -94,8 +107,10 @@ pub fn outcomes_besides(
         outcomes: BTreeSet::new(heap),
         orders: 0,
     };
-    extend(&task, &mut order, &mut found)?;
-    Ok(found)
+    match extend(&task, &mut order, &mut found) {
+        Ok(()) | Err(Stop::Enough) => Ok(found),
+        Err(Stop::Memory(refused)) => Err(refused),
+    }
 }
 
 // All outcomes by a rule.
