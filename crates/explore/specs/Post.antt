@@ -25,7 +25,7 @@ pub record Refused (s : Shape) (limit : ℕ) (q : List ℕ) (n : ℕ) (key : Lis
 
 abbrev pub EnteredAs : Shape → ℕ → List ℕ → List ℕ → ℕ → List ℕ → List ℕ → List ℕ → ℕ → Option ℕ → Type 0
 EnteredAs s limit q t n key q' t' n' (Some j) = Entered s limit q t n key q' t' j n'
-EnteredAs s limit q t n key q' t' n' None = Refused s limit q n key
+EnteredAs s limit q t n key q' t' n' None = Refused s limit q n key × (n' ≡ n)
 
 -- exploration at move m of state i: what is found, the table that finds it again, and the edges before this one
 pub record Going (p : Prog) (s : Shape) (limit : ℕ) (q t g : List ℕ) (n i m : ℕ) : Type 0 where
@@ -41,12 +41,12 @@ pub record Going (p : Prog) (s : Shape) (limit : ℕ) (q t g : List ℕ) (n i m 
 -- one more edge; or there are more states than may be
 abbrev pub Visited : Prog → Shape → ℕ → ℕ → ℕ → ℕ → List ℕ → List ℕ → List ℕ → ℕ → Option (Unit {0}) → Type 0
 Visited p s limit n i m q t g n' (Some _) = Going p s limit q t g n' i (m + 1) × (n' ≤ n + 1)
-Visited p s limit n i m q t g n' None = Crowded p limit
+Visited p s limit n i m q t g n' None = Crowded p limit × (n' ≡ n)
 
 -- all moves of a state; or there are more states than may be
 abbrev pub Expanded : Prog → Shape → ℕ → ℕ → List ℕ → List ℕ → List ℕ → ℕ → Option (Unit {0}) → Type 0
 Expanded p s limit i q t g n' (Some _) = Going p s limit q t g n' i (moves_of (length p))
-Expanded p s limit i q t g n' None = Crowded p limit
+Expanded p s limit i q t g n' None = Crowded p limit × (n' ≤ limit)
 
 -- exploration between two states: those before i have had their turn
 pub record Between (p : Prog) (s : Shape) (limit : ℕ) (q t g : List ℕ) (n i : ℕ) : Type 0 where

@@ -6,7 +6,7 @@ ghost use Rattle.explore.specs.Found.{width, moves_of};
 ghost use Rattle.explore.specs.Post.{Between, Started, AllExplored};
 
 use crate::expand::expand;
-use crate::grow::make_room;
+use crate::grow::with_room;
 use lent::shape::Shape;
 use lent::table::Records;
 use program::threads::Program;
@@ -62,7 +62,7 @@ pub fn explore(
     let mut i = 0;
     // not a range: its end would be fixed, and states come while the loop runs
     'states: while i < records.n {
-        make_room(&mut records, limit);
+        records = with_room(records, limit);
         expand(p, &mut records, limit, i, edges, key)?;
         i += 1;
     }

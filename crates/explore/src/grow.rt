@@ -4,7 +4,7 @@ ghost use Rattle.lent.specs.Table.{homes, Probed};
 ghost use Rattle.explore.specs.Grown.{Larger, Roomy};
 
 use lent::shape::Shape;
-use lent::table::Records;
+use lent::table::{Records, rebuild};
 
 // A larger shape for the table, with room for the moves of one more state: twice the homes, half of them to be taken, as
 // long as there are words for that; else room for all states that may be.
@@ -35,20 +35,48 @@ fn larger(shape: Shape, limit: usize, n: usize, places: usize) -> Shape
     }
 }
 
-// Room in the table for the moves of one more state: where there is none, the table is made anew, and larger.
-pub fn make_room(records: &mut Records<'_, '_>, limit: usize)
-    requires probed { Probed records.old.shape records.old.queue.now records.old.table.now records.old.n }
-    requires few { records.old.n ≤ limit }
+// The shape of a table with room for the moves of one more state: the same where there is room, else a larger one, for
+// which the table is made anew.
+pub fn make_room(shape: Shape, limit: usize, queue: &[u32], n: usize, table: &mut [u32]) -> Shape
+    requires probed { Probed shape queue.now table.old n }
+    requires few { n ≤ limit }
     requires told { limit < 2 ^ 32 }
-    requires fits { homes records.old.shape + (limit + 9) ≤ length records.old.table.now }
-    ensures roomy { Roomy records.old.shape limit records.new.queue.now records.new.n records.new.table.now records.new.shape }
-    ensures n { records.new.n ≡ records.old.n }
-    ensures states { records.new.queue.now ≡ records.old.queue.now }
-    ensures queue { records.new.queue.ghost_name ≡ records.old.queue.ghost_name }
-    ensures table { records.new.table.ghost_name ≡ records.old.table.ghost_name }
+    requires fits { homes shape + (limit + 9) ≤ length table.old }
+    ensures { Roomy shape limit queue.now n table.new result }
 {
-    if records.n + 8 >= records.shape.room {
-        let larger = larger(records.shape, limit, records.n, records.table.len());
-        records.reshape(larger);
+    if n + 8 < shape.room {
+        return shape;
+    }
+    let larger = larger(shape, limit, n, table.len());
+    rebuild(larger, queue, n, table);
+    larger
+}
+
+// The records, with room in their table for the moves of one more state. By value, since the check does not cover a call
+// that lends two parts of what is behind one reference, one of them to be written.
+pub fn with_room<'q, 't>(records: Records<'q, 't>, limit: usize) -> Records<'q, 't>
+    requires probed { Probed records.shape records.queue.now records.table.now records.n }
+    requires few { records.n ≤ limit }
+    requires told { limit < 2 ^ 32 }
+    requires fits { homes records.shape + (limit + 9) ≤ length records.table.now }
+    ensures roomy { Roomy records.entry.shape limit result.queue.now result.n result.table.now result.shape }
+    ensures n { result.n ≡ records.entry.n }
+    ensures states { result.queue.now ≡ records.entry.queue.now }
+    ensures places { length result.table.now ≡ length records.entry.table.now }
+    ensures queue { result.queue.ghost_name ≡ records.entry.queue.ghost_name }
+    ensures table { result.table.ghost_name ≡ records.entry.table.ghost_name }
+{
+    let Records {
+        shape,
+        n,
+        queue,
+        table,
+    } = records;
+    let shape = make_room(shape, limit, queue, n, table);
+    Records {
+        shape,
+        n,
+        queue,
+        table,
     }
 }

@@ -9,7 +9,7 @@ use Rattle.std.proofs.lemmas.List.Sums.{fails_before_first, passes_at_first}
 use Rattle.std.specs.List.{position, position_or_len}
 use Rattle.lent.specs.declared.shape.Shape.{Shape}
 use Rattle.lent.specs.Records.{rec}
-use Rattle.lent.specs.Table.{homes, places, home, Full, Placed, Probed, Free, Inserted, SomeFree, FirstFree}
+use Rattle.lent.specs.Table.{homes, places, home, Full, Placed, Probed, Free, Stop, Inserted, SomeFree, FirstFree}
 use Rattle.lent.proofs.RecordLaws.{rec_kept, rec_put, more_words, ends_within}
 
 -- every place up to `at` is full, and what it holds is not the key
@@ -33,6 +33,14 @@ module _ (s : Shape) (q t : List ℕ) (n : ℕ) (key : List ℕ) (at : ℕ) (pro
         past = λ k a b same. elim (cases_eq k at) [ inl e ↦ other (rw e at same) | inr ne ↦ looked.past k a (omega arith) same ];
       }
 
+  pub looked_known : 0 < get_or t at 0 → rec q s.width (get_or t at 0 - 1) ≡ key → Stop s q t n key at
+  looked_known h same =
+      record {
+        inside = omega arith;
+        known = λ _. record { below = probed.entries at (omega arith); same = same };
+        free = λ e. absurd (omega arith);
+      }
+
   -- the probe for a record that is the key would have come to that record's place
   not_there : get_or t at 0 ≡ 0 → (i : ℕ) → rec q s.width i ≡ key → Placed s q t n i → ⊥
   not_there e i same p =
@@ -46,14 +54,19 @@ module _ (s : Shape) (q t : List ℕ) (n : ℕ) (key : List ℕ) (at : ℕ) (pro
         | inr (inr after) ↦ omega (arith, p.full at (omega (arith, looked.behind)) after)
       ]
 
-  pub looked_free : get_or t at 0 ≡ 0 → Free s q t n key at
+  pub looked_free : get_or t at 0 ≡ 0 → Stop s q t n key at
   looked_free e =
       record {
-        empty = e;
-        behind = looked.behind;
-        within = looked.within;
-        full = looked.full;
-        new = λ i h same. not_there e i same (probed.placed i h);
+        inside = omega arith;
+        known = λ h. absurd (omega arith);
+        free = λ _.
+            record {
+              empty = e;
+              behind = looked.behind;
+              within = looked.within;
+              full = looked.full;
+              new = λ i h same. not_there e i same (probed.placed i h);
+            };
       }
 
 -- a walk through full places is not yet past a free one

@@ -58,15 +58,26 @@ pub record Free (s : Shape) (q t : List ℕ) (n : ℕ) (key : List ℕ) (place :
   pub full : Full t (home s key) place
   pub new : (i : ℕ) → i < n → rec q s.width i ≢ key
 
+-- the place tells the record that is the key
+pub record Known (s : Shape) (q t : List ℕ) (n : ℕ) (key : List ℕ) (place : ℕ) : Type 0 where
+  pub below : slice_index_or t place 0 ≤ n
+  pub same : rec q s.width (slice_index t place - 1) ≡ key
+
+-- where the probe for a key ended
+pub record Stop (s : Shape) (q t : List ℕ) (n : ℕ) (key : List ℕ) (place : ℕ) : Type 0 where
+  pub inside : place < places s
+  pub known : 0 < slice_index t place → Known s q t n key place
+  pub free : slice_index_or t place 0 ≡ 0 → Free s q t n key place
+
 -- record i is the key
-pub record Known (s : Shape) (q : List ℕ) (n : ℕ) (key : List ℕ) (i : ℕ) : Type 0 where
+pub record IsKey (s : Shape) (q : List ℕ) (n : ℕ) (key : List ℕ) (i : ℕ) : Type 0 where
   pub below : i < n
   pub same : rec q s.width i ≡ key
 
 -- what the probe for a key came to: the record that is the key, or a free place
-abbrev pub Stop : Shape → List ℕ → List ℕ → ℕ → List ℕ → Result ℕ ℕ → Type 0
-Stop s q t n key (Ok i) = Known s q n key i
-Stop s q t n key (Err place) = (place < places s) × Free s q t n key place
+abbrev pub Found : Shape → List ℕ → List ℕ → ℕ → List ℕ → Result ℕ ℕ → Type 0
+Found s q t n key (Ok i) = IsKey s q n key i
+Found s q t n key (Err place) = (place < places s) × Free s q t n key place
 
 -- the key is record n now, and the table has it
 pub record Inserted (s : Shape) (q t : List ℕ) (n : ℕ) (key : List ℕ) (place : ℕ) (q' t' : List ℕ) : Type 0 where

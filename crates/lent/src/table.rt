@@ -1,8 +1,9 @@
 // A table that finds records of equal width in lent words again. The records stand one after the other in one part of the
-// lent words, the queue, and the table in another.
-ghost use Rattle.std.specs.Prelude.{◌≡◌, ℕ, ◌+◌, ◌*◌, ◌^◌, ◌<◌, ◌≤◌, ◌==◌, length, drop, position, slice_index};
+// lent words, the queue, and the table in another. What only reads the records takes the queue as a slice that may be
+// shared; `Records` holds both parts and writes to them.
+ghost use Rattle.std.specs.Prelude.{◌≡◌, ℕ, ◌+◌, ◌*◌, ◌^◌, ◌<◌, ◌≤◌, ◌==◌, length, drop, position, Decides, slice_index};
 ghost use Rattle.lent.specs.Records.{rec};
-ghost use Rattle.lent.specs.Table.{homes, places, home, Probed, Free, Stop, Inserted, SomeFree, FirstFree};
+ghost use Rattle.lent.specs.Table.{homes, places, home, Probed, Free, Stop, Found, Inserted, SomeFree, FirstFree};
 
 use crate::hash::hash;
 use crate::shape::Shape;
@@ -22,8 +23,37 @@ fn first_place(shape: Shape, key: &[u32]) -> usize
     (hash(key) >> (64 - shape.bits)) as usize
 }
 
-// Makes the first places free, and leaves the others as they are. Not in `reshape`: of a part that is written through a
-// struct's own reference the check knows only how long it is.
+// Is record i the key?
+fn is_record(shape: Shape, queue: &[u32], i: usize, key: &[u32]) -> bool
+    requires { (i + 1) * shape.width ≤ length queue.now }
+    ensures { Decides result (rec queue.now shape.width i ≡ key.now) }
+{
+    let start = i * shape.width;
+    &queue[start..start + shape.width] == key
+}
+
+// The place where the probe for a key ends: it tells the record that is the key, or it is free and there is none. That
+// there are n records is for the contract alone.
+pub fn find(shape: Shape, queue: &[u32], n: usize, table: &[u32], key: &[u32]) -> usize
+    requires probed { Probed shape queue.now table.now n }
+    requires room { n < shape.room }
+    ensures { Stop shape queue.now table.now n key.now result }
+{
+    let mut at = first_place(shape, key);
+    let place = 'probe: loop {
+        let entry = table[at] as usize;
+        if entry == 0 {
+            break 'probe at;
+        }
+        if is_record(shape, queue, entry - 1, key) {
+            break 'probe at;
+        }
+        at += 1;
+    };
+    place
+}
+
+// Makes the first places free, and leaves the others as they are.
 fn clear(table: &mut [u32], count: usize)
     requires { count ≤ length table.old }
     ensures free { (p : ℕ) → p < count → slice_index table.new p ≡ 0 }
@@ -37,6 +67,44 @@ fn first_free(places: &[u32]) -> Option<usize>
     ensures { result ≡ position (λ x. x == 0) places.now }
 {
     places.iter().position(|entry| *entry == 0)
+}
+
+// The first free place from one place on.
+fn free_place(table: &[u32], from: usize) -> usize
+    requires { SomeFree table.now from }
+    ensures { FirstFree table.now from result }
+{
+    from + first_free(&table[from..]).unwrap()
+}
+
+// Enters record n, which stands in the queue already.
+fn enter(shape: Shape, queue: &[u32], n: usize, table: &mut [u32])
+    requires probed { Probed shape queue.now table.old n }
+    requires room { n < shape.room }
+    requires told { n + 1 < 2 ^ 32 }
+    requires ends { (n + 1) * shape.width ≤ length queue.now }
+    ensures probed { Probed shape queue.now table.new (n + 1) }
+    ensures rest { drop (places shape) table.new ≡ drop (places shape) table.old }
+{
+    let start = n * shape.width;
+    let from = first_place(shape, &queue[start..start + shape.width]);
+    let at = free_place(table, from);
+    table[at] = (n + 1) as u32;
+}
+
+// Makes the table anew for the first n records: at the start, and when it is to grow.
+pub fn rebuild(shape: Shape, queue: &[u32], n: usize, table: &mut [u32])
+    requires few { n ≤ shape.room }
+    requires told { n < 2 ^ 32 }
+    requires held { n * shape.width ≤ length queue.now }
+    requires fits { places shape ≤ length table.old }
+    ensures probed { Probed shape queue.now table.new n }
+    ensures rest { drop (places shape) table.new ≡ drop (places shape) table.old }
+{
+    clear(table, table_places(shape));
+    for i in 0..n {
+        enter(shape, queue, i, table);
+    }
 }
 
 // The first n records of the queue, and a table that finds them again. The two have a lifetime each, and no struct holds
@@ -71,14 +139,13 @@ impl<'q, 't> Records<'q, 't> {
         ensures queue { result.queue.ghost_name ≡ queue.entry.ghost_name }
         ensures table { result.table.ghost_name ≡ table.entry.ghost_name }
     {
-        let mut records = Records {
+        rebuild(shape, queue, n, table);
+        Records {
             shape,
             n,
             queue,
             table,
-        };
-        records.reshape(shape);
-        records
+        }
     }
 
     // The words of a record.
@@ -94,18 +161,10 @@ impl<'q, 't> Records<'q, 't> {
     pub fn find(&self, key: &[u32]) -> Result<usize, usize>
         requires probed { Probed self.now.shape self.now.queue.now self.now.table.now self.now.n }
         requires room { self.now.n < self.now.shape.room }
-        ensures { Stop self.now.shape self.now.queue.now self.now.table.now self.now.n key.now result }
+        ensures { Found self.now.shape self.now.queue.now self.now.table.now self.now.n key.now result }
     {
-        let mut at = first_place(self.shape, key);
-        'probe: loop {
-            let Some(i) = (self.table[at] as usize).checked_sub(1) else {
-                break 'probe Err(at);
-            };
-            if self.record(i) == key {
-                break 'probe Ok(i);
-            }
-            at += 1;
-        }
+        let place = find(self.shape, self.queue, self.n, self.table, key);
+        (self.table[place] as usize).checked_sub(1).ok_or(place)
     }
 
     // A new key is a record more, entered at the place where `find` looked for it.
@@ -128,55 +187,5 @@ impl<'q, 't> Records<'q, 't> {
         self.queue[start..start + self.shape.width].copy_from_slice(key);
         self.n += 1;
         self.table[place] = self.n as u32;
-    }
-
-    // The first free place from one place on.
-    fn free_place(&self, from: usize) -> usize
-        requires { SomeFree self.now.table.now from }
-        ensures { FirstFree self.now.table.now from result }
-    {
-        from + first_free(&self.table[from..]).unwrap()
-    }
-
-    // Enters record i, which stands in the queue behind those that the table has.
-    fn enter(&mut self, i: usize)
-        requires probed { Probed self.old.shape self.old.queue.now self.old.table.now i }
-        requires room { i < self.old.shape.room }
-        requires told { i + 1 < 2 ^ 32 }
-        requires ends { (i + 1) * self.old.shape.width ≤ length self.old.queue.now }
-        ensures probed { Probed self.old.shape self.old.queue.now self.new.table.now (i + 1) }
-        ensures rest { drop (places self.old.shape) self.new.table.now ≡ drop (places self.old.shape) self.old.table.now }
-        ensures shape { self.new.shape ≡ self.old.shape }
-        ensures n { self.new.n ≡ self.old.n }
-        ensures records { self.new.queue.now ≡ self.old.queue.now }
-        ensures places { length self.new.table.now ≡ length self.old.table.now }
-        ensures queue { self.new.queue.ghost_name ≡ self.old.queue.ghost_name }
-        ensures table { self.new.table.ghost_name ≡ self.old.table.ghost_name }
-    {
-        let from = first_place(self.shape, self.record(i));
-        let at = self.free_place(from);
-        self.table[at] = (i + 1) as u32;
-    }
-
-    // Makes the table anew, of another shape.
-    pub fn reshape(&mut self, shape: Shape)
-        requires few { self.old.n ≤ shape.room }
-        requires told { self.old.n < 2 ^ 32 }
-        requires held { self.old.n * shape.width ≤ length self.old.queue.now }
-        requires fits { places shape ≤ length self.old.table.now }
-        ensures probed { Probed shape self.new.queue.now self.new.table.now self.new.n }
-        ensures rest { drop (places shape) self.new.table.now ≡ drop (places shape) self.old.table.now }
-        ensures shape { self.new.shape ≡ shape }
-        ensures n { self.new.n ≡ self.old.n }
-        ensures records { self.new.queue.now ≡ self.old.queue.now }
-        ensures places { length self.new.table.now ≡ length self.old.table.now }
-        ensures queue { self.new.queue.ghost_name ≡ self.old.queue.ghost_name }
-        ensures table { self.new.table.ghost_name ≡ self.old.table.ghost_name }
-    {
-        clear(self.table, table_places(shape));
-        self.shape = shape;
-        for i in 0..self.n {
-            self.enter(i);
-        }
     }
 }

@@ -20,8 +20,8 @@ pub expand-requires-clause-going : goal.expand-requires-clause-going
 expand-requires-clause-going c =
     let p = program c.args.p.now in
     let r = c.states.records in
-    let r' = c.make_room.new.records in
-    let made = c.make_room.ensures in
+    let r' = c.with_room-records.result in
+    let made = c.with_room-records.ensures in
     let g = c.states.edges in
     let i = c.states.i in
     let same = made.n in
@@ -33,12 +33,12 @@ pub states-preserved : goal.states-preserved
 states-preserved c =
     let p = program c.args.p.now in
     let r = c.expand.new.records in
-    let made = c.make_room.ensures in
+    let made = c.with_room-records.ensures in
     let fits = made.roomy.fits in
     let done = c.expand.ensures in
     let places = done.places in
     record {
-      between = subst (λ (s : Shape). Between p s c.args.limit r.queue.now r.table.now c.expand.new.edges r.n (c.states.i + 1)) (sym done.shape) (turned p c.make_room.new.records.shape c.args.limit r.queue.now r.table.now c.expand.new.edges r.n c.states.i c.in_ok-expand.ensures.expanded (omega arith));
+      between = subst (λ (s : Shape). Between p s c.args.limit r.queue.now r.table.now c.expand.new.edges r.n (c.states.i + 1)) (sym done.shape) (turned p c.with_room-records.result.shape c.args.limit r.queue.now r.table.now c.expand.new.edges r.n c.states.i c.in_ok-expand.ensures.expanded (omega arith));
       words = done.words ∙ ap length made.states ∙ c.states.invariant.words;
       queue = done.queue ∙ made.queue ∙ c.states.invariant.queue;
       table = done.table ∙ made.table ∙ c.states.invariant.table;

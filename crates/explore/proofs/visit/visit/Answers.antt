@@ -39,7 +39,7 @@ returns-in_err-j-clause-visited c =
     let go = c.requires.going in
     let e = record_state p r.shape c.args.limit r.queue.now r.table.now c.args.edges.now r.n c.args.i c.args.m _ go c.record.ensures in
     let st = subst (λ (ws : List ℕ). Stepped (λ s. move p s (move_of (length p) c.args.m)) ws true c.make.new.to) e (stepped_number p c.count-threads.result c.args.m _ c.record.result.now true c.make.new.to c.numbered.ensures c.count-threads.ensures.value c.if-not-make.ensures) in
-    rw c.from_residual.ensures (no_room p r.shape c.args.limit r.queue.now r.table.now c.args.edges.now r.n c.args.i c.args.m go c.requires.below c.requires.word c.make.new.to st c.in_err-j.ensures.entered)
+    rw c.from_residual.ensures (no_room p r.shape c.args.limit r.queue.now r.table.now c.args.edges.now r.n c.args.i c.args.m go c.requires.below c.requires.word c.make.new.to st c.in_err-j.ensures.entered.0, c.in_err-j.ensures.entered.1)
 
 pub returns-clause-visited : goal.returns-clause-visited
 returns-clause-visited c =

@@ -2,10 +2,10 @@
 use Rattle.std.proofs.Common.{◌-◌}
 use Rattle.lent.specs.Table.{places}
 use Rattle.lent.proofs.Probing.{Looked}
-use Rattle.lent.proofs.table.Records.find.Given as goal
+use Rattle.lent.proofs.table.find.Given as goal
 
 abbrev pub invariant-probe : goal.invariant-probe
-invariant-probe l = Looked l.self.shape l.self.queue.now l.self.table.now l.self.n l.key l.at
+invariant-probe l = Looked l.shape l.queue l.table l.n l.key l.at
 
 abbrev pub decreases-probe : goal.decreases-probe
-decreases-probe l = places l.self.shape - l.at
+decreases-probe l = places l.shape - l.at
