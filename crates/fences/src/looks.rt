@@ -1,7 +1,8 @@
 // Looking at a set of guards over the states found: is a bad state come to, which is finished and can't be come to at once;
 // and what is learned from a run to it.
-ghost use Rattle.std.specs.Prelude.{◌≡◌, ℕ, ◌+◌, ◌<◌, ◌≤◌, true, List, length, Some};
+ghost use Rattle.std.specs.Prelude.{◌≡◌, ℕ, ◌+◌, ◌*◌, ◌<◌, ◌≤◌, true, List, length, Some};
 ghost use Rattle.program.specs.Meaning.{program};
+ghost use Rattle.explore.specs.Found.{width, moves_of, Explored};
 ghost use Rattle.fences.specs.Fewest.{Ground};
 ghost use Rattle.fences.specs.Looks.{Chosen, Bad, Looked, Learned};
 
@@ -38,7 +39,9 @@ fn as_good(cost: &[u32], best: Option<usize>, i: usize) -> bool
 impl Base<'_> {
     // The better of the best so far and state `i`, if that is a bad one. The dear test comes last.
     fn choose(&self, cost: &[u32], i: usize, best: Option<usize>) -> Option<usize>
-        requires ground { Ground (program self.now.p.now) self.now.queue.now self.now.edges.now self.now.once.now self.now.n }
+        requires explored { (g : List ℕ) × Explored (program self.now.p.now) self.now.queue.now g self.now.n }
+        requires held { self.now.n * width (length (program self.now.p.now)) ≤ length self.now.queue.now }
+        requires in_once { self.now.n ≤ length self.now.once.now }
         requires in_cost { self.now.n ≤ length cost.now }
         requires below { i < self.now.n }
         requires best { Chosen (program self.now.p.now) self.now.queue.now self.now.once.now cost.now i best }
@@ -61,7 +64,9 @@ impl Base<'_> {
 
     // Of the states that are finished, marked in `cost` and not come to at once, one of least cost.
     pub fn find_bad(&self, cost: &[u32]) -> Option<usize>
-        requires ground { Ground (program self.now.p.now) self.now.queue.now self.now.edges.now self.now.once.now self.now.n }
+        requires explored { (g : List ℕ) × Explored (program self.now.p.now) self.now.queue.now g self.now.n }
+        requires held { self.now.n * width (length (program self.now.p.now)) ≤ length self.now.queue.now }
+        requires in_once { self.now.n ≤ length self.now.once.now }
         requires in_cost { self.now.n ≤ length cost.now }
         ensures { Chosen (program self.now.p.now) self.now.queue.now self.now.once.now cost.now self.now.n result }
     {
@@ -92,7 +97,8 @@ impl Base<'_> {
 
     // Reads the run to a bad state back into `path`: how many moves it has, and what it passes.
     pub fn learn(&self, guards: u32, from: &[u32], bad: usize, path: &mut [u32]) -> (usize, u32)
-        requires ground { Ground (program self.now.p.now) self.now.queue.now self.now.edges.now self.now.once.now self.now.n }
+        requires explored { Explored (program self.now.p.now) self.now.queue.now self.now.edges.now self.now.n }
+        requires kept { self.now.n * moves_of (length (program self.now.p.now)) ≤ length self.now.edges.now }
         requires in_from { self.now.n ≤ length from.now }
         requires bad { (cost : List ℕ) × Bad (program self.now.p.now) self.now.queue.now self.now.edges.now guards self.now.n cost from.now bad }
         requires room { length path.old ≡ 64 }
