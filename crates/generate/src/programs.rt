@@ -14,7 +14,7 @@
 //
 // All orders can be made only of few reads and writes, so their number is bounded for the whole program, and the number of
 // instructions is not.
-ghost use Rattle.std.specs.Prelude.{◌<◌, ◌≤◌, length, IfOk, vec_len};
+ghost use Rattle.std.specs.Prelude.{◌≡◌, ◌+◌, ◌<◌, ◌≤◌, min, length, IfOk, vec_len, OnOk};
 
 use crate::random::Random;
 use program::instructions::{Instruction, Place, Register};
@@ -87,7 +87,9 @@ impl<'a> Draft<'a> {
     }
 
     // One of the three first places of the ring, and now and then another.
-    fn some_place(&mut self) -> Place {
+    fn some_place(&mut self) -> Place
+        ensures { vec_len self.new.code ≡ vec_len self.old.code }
+    {
         let i = if self.random.one_in(12) {
             self.random.below(8)
         } else {
@@ -97,7 +99,9 @@ impl<'a> Draft<'a> {
     }
 
     // A store, mostly of the register that has a number above 0.
-    fn store(&mut self, place: Place) -> Instruction {
+    fn store(&mut self, place: Place) -> Instruction
+        ensures { vec_len self.new.code ≡ vec_len self.old.code }
+    {
         if self.random.one_in(16) {
             return Instruction::Store(place, some_register(self.random));
         }
@@ -105,12 +109,16 @@ impl<'a> Draft<'a> {
     }
 
     // A load into one of the two registers for it.
-    fn load(&mut self, place: Place) -> Instruction {
+    fn load(&mut self, place: Place) -> Instruction
+        ensures { vec_len self.new.code ≡ vec_len self.old.code }
+    {
         Instruction::Load(behind(self.full, 1 + self.random.below(2)), place)
     }
 
     // The place of the thread's first store, or any.
-    fn stored_place(&mut self) -> Place {
+    fn stored_place(&mut self) -> Place
+        ensures { vec_len self.new.code ≡ vec_len self.old.code }
+    {
         let stored = self.code.iter().find_map(|i| match *i {
             Instruction::Store(place, _) => Some(place),
             _ => None,
@@ -122,7 +130,9 @@ impl<'a> Draft<'a> {
     }
 
     // A load, a load of what the thread itself stores, or a store.
-    fn event(&mut self) -> Instruction {
+    fn event(&mut self) -> Instruction
+        ensures { vec_len self.new.code ≡ vec_len self.old.code }
+    {
         match self.random.below(3) {
             0 => {
                 let place = self.some_place();
@@ -140,7 +150,9 @@ impl<'a> Draft<'a> {
     }
 
     // A line that reads and writes nothing.
-    fn filler(&mut self) -> Instruction {
+    fn filler(&mut self) -> Instruction
+        ensures { vec_len self.new.code ≡ vec_len self.old.code }
+    {
         let into = if self.random.one_in(6) {
             some_register(self.random)
         } else {
@@ -157,7 +169,9 @@ impl<'a> Draft<'a> {
     }
 
     // A line before the `at`-th, or behind the others where they are fewer, if there is room.
-    fn insert(&mut self, at: usize, line: Instruction) -> Result<(), AllocError> {
+    fn insert(&mut self, at: usize, line: Instruction) -> Result<(), AllocError>
+        ensures { OnOk result (vec_len self.new.code ≡ min (vec_len self.old.code + 1) 8) }
+    {
         let len = self.code.len();
         if len < 8 {
             self.code.insert(at.min(len), line)?;
@@ -166,7 +180,9 @@ impl<'a> Draft<'a> {
     }
 
     // A line behind the others, if there is room.
-    fn push(&mut self, line: Instruction) -> Result<(), AllocError> {
+    fn push(&mut self, line: Instruction) -> Result<(), AllocError>
+        ensures { OnOk result (vec_len self.new.code ≡ min (vec_len self.old.code + 1) 8) }
+    {
         self.insert(8, line)
     }
 
@@ -190,7 +206,9 @@ impl<'a> Draft<'a> {
     }
 
     // One more line, anywhere, if there is room.
-    fn add_line(&mut self) -> Result<(), AllocError> {
+    fn add_line(&mut self) -> Result<(), AllocError>
+        ensures { OnOk result (vec_len self.new.code ≡ min (vec_len self.old.code + 1) 8) }
+    {
         if self.code.len() >= 8 {
             return Ok(());
         }
@@ -222,7 +240,9 @@ impl<'a> Draft<'a> {
     }
 
     // An access to the thread's own place and one to the next thread's.
-    fn add_accesses(&mut self, own: u32, next: u32) -> Result<(), AllocError> {
+    fn add_accesses(&mut self, own: u32, next: u32) -> Result<(), AllocError>
+        ensures { OnOk result (vec_len self.new.code ≡ min (vec_len self.old.code + 2) 8) }
+    {
         let (own, next) = (self.plan.place(own), self.plan.place(next));
         let first = if self.random.one_in(20) {
             self.load(own)
