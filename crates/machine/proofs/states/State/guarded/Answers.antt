@@ -14,4 +14,5 @@ pub nothing_waits-requires : goal.nothing_waits-requires
 nothing_waits-requires c =
     let st = c.args.self.now in
     let v = c.count.ensures.value in
-    room (program st.p.now) st.words.now c.args.n (held _ _ st.held) (omega arith)
+    let r = room (program st.p.now) st.words.now c.args.n (held _ _ st.held) (omega arith) in
+    omega arith
