@@ -20,7 +20,7 @@ pub struct Lines {
     heap: Global,
     reader: Take<BufReader<Stdin>>,
     // the number of the line that was asked for last
-    number: u64,
+    pub number: u64,
 }
 
 impl Lines {
