@@ -46,7 +46,7 @@ Visited p s limit n i m q t g n' None = Crowded p limit × (n' ≡ n)
 -- all moves of a state; or there are more states than may be
 abbrev pub Expanded : Prog → Shape → ℕ → ℕ → List ℕ → List ℕ → List ℕ → ℕ → Option (Unit {0}) → Type 0
 Expanded p s limit i q t g n' (Some _) = Going p s limit q t g n' i (moves_of (length p))
-Expanded p s limit i q t g n' None = Crowded p limit × (n' ≤ limit)
+Expanded p s limit i q t g n' None = Crowded p limit × (n' ≤ limit) × (n' < s.room)
 
 -- exploration between two states: those before i have had their turn
 pub record Between (p : Prog) (s : Shape) (limit : ℕ) (q t g : List ℕ) (n i : ℕ) : Type 0 where
