@@ -58,8 +58,13 @@ pub fn events_of(heap: Global, threads: &[Vec<Instruction>]) -> Result<Vec<Event
     Ok(events)
 }
 
+// They are one event.
+pub fn same(a: &Event, b: &Event) -> bool {
+    a.spot == b.spot
+}
+
 pub fn stands_in(order: &[Event], e: &Event) -> bool {
-    order.iter().any(|a| a.spot == e.spot)
+    order.iter().any(|a| same(a, e))
 }
 
 // The first stands before the second in their thread.
