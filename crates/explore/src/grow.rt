@@ -52,8 +52,8 @@ pub fn make_room(shape: Shape, limit: usize, queue: &[u32], n: usize, table: &mu
     larger
 }
 
-// The records, with room in their table for the moves of one more state. By value, since the check does not cover a call
-// that lends two parts of what is behind one reference, one of them to be written.
+// The records, with room in their table for the moves of one more state. By value: behind a reference the queue, which is
+// only read, would have to be lent to be written as well.
 pub fn with_room<'q, 't>(records: Records<'q, 't>, limit: usize) -> Records<'q, 't>
     requires probed { Probed records.shape records.queue.now records.table.now records.n }
     requires few { records.n ≤ limit }
